@@ -1,0 +1,4 @@
+pub mod Digits
+mod Spelling
+mod Laws
+mod Opening

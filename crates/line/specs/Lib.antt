@@ -1,0 +1,4 @@
+pub mod Messages
+pub mod Refusals
+pub mod Framings
+pub mod Calls
