@@ -5,7 +5,7 @@
 //!
 //! Each byte between 3A and 0D 0A is two capital hex digits, the high one first. The length counts the bytes behind it:
 //! the node and the data (2 to 65), or the code (1). A frame carries no mark.
-ghost use mathlib.Core.List.{[], _∷_};
+ghost use mathlib.Core.List.{_∷_};
 ghost use mathlib.Core.Path.{_≡_};
 ghost use Prim.Native.Nat.{_+_, _*_, _/_, _%_, _<_, _≤_};
 ghost use lib.ListN.{length, take};
@@ -38,10 +38,10 @@ fn hex_digit(v: u8) -> u8
 }
 
 /// The two capital hex digits of a byte, the high one first.
-pub fn hex_pair(byte: u8) -> [u8; 2]
-    ensures { λ r. ⌜ r ≡ digit (byte / 16) ∷ digit (byte % 16) ∷ [] ⌝ }
+pub fn hex_pair(byte: u8) -> (u8, u8)
+    ensures { λ r. ⌜ r ≡ (digit (byte / 16), digit (byte % 16)) ⌝ }
 {
-    [hex_digit(byte / 16), hex_digit(byte % 16)]
+    (hex_digit(byte / 16), hex_digit(byte % 16))
 }
 
 /// The number that a capital hex digit stands for.
@@ -64,7 +64,7 @@ fn put_hex(frame: &mut [u8], start: usize, bytes: &[u8]) -> usize
 {
     let mut end = start;
     for b in bytes {
-        let [high, low] = hex_pair(*b);
+        let (high, low) = hex_pair(*b);
         frame[end] = high;
         frame[end + 1] = low;
         end += 2;

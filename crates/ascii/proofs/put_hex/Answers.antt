@@ -1,8 +1,6 @@
 use mathlib.Core.Path.{_∙_, ap}
-use mathlib.Core.List.{List}
 use Prim.Native.Nat.{ℕ}
 use native.Mathlib.Omega.{arith}
-use lib.ListN.{getD}
 use Rattle.std.proofs.shelf.Lists.{take-all}
 use Rattle.line.specs.Calls.{overlaid}
 use Rattle.line.proofs.Laying.{overlaid-none}
@@ -17,8 +15,8 @@ pub loop-b-again : need.loop-b-again
 loop-b-again c = (
   omega arith,
   hexes-more (c .args .frame .now) (c .args .bytes .now) (c .loop-b .frame) (c .args .start) (c .loop-b .b-index)
-      (c .loop-b .end) (getD (c .hex-pair .result) 0 0) (getD (c .hex-pair .result) 1 0) (c .loop-b .inv .1) (c .loop-b .inv .0) (c .loop-b-test .taken)
-      (c .pre) (ap (λ (p : List ℕ). getD p 0 0) (c .hex-pair .ensures)) (ap (λ (p : List ℕ). getD p 1 0) (c .hex-pair .ensures)),
+      (c .loop-b .end) (c .hex-pair-high .result .0) (c .hex-pair-high .result .1) (c .loop-b .inv .1) (c .loop-b .inv .0) (c .loop-b-test .taken)
+      (c .pre) (ap (λ (p : ℕ × ℕ). p .0) (c .hex-pair-high .ensures)) (ap (λ (p : ℕ × ℕ). p .1) (c .hex-pair-high .ensures)),
 )
 
 pub returns : need.returns

@@ -1,0 +1,5 @@
+mod Doubling
+mod Undoubling
+mod Laying
+pub mod Laws
+mod Opening

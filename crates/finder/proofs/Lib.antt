@@ -1,0 +1,7 @@
+mod Reading
+mod Kept
+mod Shapes
+mod Runs
+mod Turns
+pub mod Firsts
+pub mod Feeds
