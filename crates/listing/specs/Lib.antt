@@ -1,0 +1,4 @@
+pub mod Words
+pub mod Hearing
+pub mod Frames
+pub mod Written

@@ -1,0 +1,4 @@
+//! The listing: what is heard on the line, frame by frame.
+pub mod frames;
+mod heard;
+mod words;
