@@ -1,0 +1,6 @@
+mod Calls
+mod Meaning
+mod Pigeonhole
+mod Places
+mod Replays
+mod Turns
