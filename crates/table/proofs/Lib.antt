@@ -1,0 +1,7 @@
+mod Texts
+mod Defaults
+mod Places
+mod Sums
+mod Adding
+mod Limits
+pub mod Facts
