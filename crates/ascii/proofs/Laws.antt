@@ -7,7 +7,7 @@ use Prim.Native.Nat.{ℕ, suc, _+_, _-_, _*_, _/_, _%_, _≤_, _<_}
 use native.Mathlib.Omega.{arith}
 use lib.ListN.{length, take, drop, getD, length-append}
 use lib.Dec.{eqb, ltb, leb}
-use Rattle.std.proofs.shelf.Lists.{drop-more, drop-all, drop-drop, take-at, getD-at, getD-append-add, take-append-drop}
+use Rattle.std.proofs.shelf.Lists.{take-at, getD-at, getD-append-add}
 use Rattle.std.proofs.shelf.Tests.{eq-eqb, eqb-true, leb-true, le-leb, cond-true, cond-false, cases-bool, and-parts, and-from, ltb-false, le-ltb}
 use Rattle.std.proofs.shelf.Ways.{tells}
 use Rattle.std.specs.declared.option.Option.{Option}
@@ -18,6 +18,7 @@ use Rattle.line.specs.declared.refusal.Flaw.{Flaw}
 use Rattle.line.specs.declared.refusal.Flaw.the-variants.{NotAFrame}
 use Rattle.line.specs.Messages.{Msg, dataMsg, errorMsg, Bytes, Framable, OfBytes}
 use Rattle.line.specs.Framings.{Laws}
+use Rattle.line.proofs.Laying.{last-two}
 use Rattle.ascii.specs.Hex.{digit, hexes, value, paired, spelled}
 use Rattle.ascii.specs.Frames.{counted, framed, encode, message, opened, delimited, inner, digitsOpened, decode, ascii}
 use Rattle.ascii.proofs.Digits.{length-hexes}
@@ -93,21 +94,14 @@ apart : (f : List ℕ) → 3 ≤ length f
     → getD f 0 0 ∷ (take (length f - 3) (drop 1 f) ++ getD f (length f - 2) 0 ∷ getD f (length f - 1) 0 ∷ []) ≡ f
 apart [] h = absurd (omega arith)
 apart (x ∷ r) h =
-    let two : length r - 2 < length r = omega arith in
-    let one : length r - 2 + 1 < length r = omega arith in
-    let end : length r ≤ length r - 2 + 1 + 1 = omega arith in
+    let two : 2 ≤ length r = omega arith in
     let a : suc (length r) - 3 ≡ length r - 2 = omega arith in
     let b : suc (length r) - 2 ≡ suc (length r - 2) = omega arith in
-    let c : suc (length r) - 1 ≡ suc (length r - 2 + 1) = omega arith in
-    let tail : drop (length r - 2) r ≡ getD r (length r - 2) 0 ∷ getD r (length r - 2 + 1) 0 ∷ [] =
-    drop-more r (length r - 2) 0 two
-    ∙ ap (λ (z : List ℕ). getD r (length r - 2) 0 ∷ z) (drop-more r (length r - 2 + 1) 0 one)
-    ∙ ap (λ (z : List ℕ). getD r (length r - 2) 0 ∷ getD r (length r - 2 + 1) 0 ∷ z) (drop-all (length r - 2 + 1 + 1) r end) in
+    let c : suc (length r) - 1 ≡ suc (length r - 1) = omega arith in
     ap (λ (m : ℕ). x ∷ (take m r ++ getD (x ∷ r) (suc (length r) - 2) 0 ∷ getD (x ∷ r) (suc (length r) - 1) 0 ∷ [])) a
     ∙ ap (λ (m : ℕ). x ∷ (take (length r - 2) r ++ getD (x ∷ r) m 0 ∷ getD (x ∷ r) (suc (length r) - 1) 0 ∷ [])) b
     ∙ ap (λ (m : ℕ). x ∷ (take (length r - 2) r ++ getD r (length r - 2) 0 ∷ getD (x ∷ r) m 0 ∷ [])) c
-    ∙ ap (λ (z : List ℕ). x ∷ (take (length r - 2) r ++ z)) (sym tail)
-    ∙ ap (λ (z : List ℕ). x ∷ z) (take-append-drop (length r - 2) r)
+    ∙ ap (λ (z : List ℕ). x ∷ z) (last-two r two)
 
 inner-of : (f d : List ℕ) → inner f ≡ Some d → 58 ∷ (d ++ 13 ∷ 10 ∷ []) ≡ f
 inner-of f d e =

@@ -7,7 +7,7 @@ use Prim.Native.Nat.{ℕ, suc, _+_, _-_, _≤_, _<_}
 use native.Mathlib.Omega.{arith}
 use lib.ListN.{length, take, drop, getD, length-append}
 use lib.Dec.{eqb, leb}
-use Rattle.std.proofs.shelf.Lists.{drop-more, drop-all, take-at, getD-at, getD-append-add, take-append-drop}
+use Rattle.std.proofs.shelf.Lists.{take-at, getD-at, getD-append-add}
 use Rattle.std.proofs.shelf.Tests.{eq-eqb, ne-eqb, eqb-true, eqb-false, le-leb, leb-true, cond-true, cond-false, cases-bool, and-parts, and-from}
 use Rattle.std.proofs.shelf.Ways.{tells}
 use Rattle.std.specs.declared.option.Option.{Option}
@@ -18,6 +18,7 @@ use Rattle.line.specs.declared.refusal.Flaw.{Flaw}
 use Rattle.line.specs.declared.refusal.Flaw.the-variants.{NotAFrame}
 use Rattle.line.specs.Messages.{Msg, dataMsg, errorMsg, Bytes, Framable, OfBytes}
 use Rattle.line.specs.Framings.{Laws}
+use Rattle.line.proofs.Laying.{last-two}
 use Rattle.binary.specs.declared.Mark.{Mark}
 use Rattle.binary.specs.Doubling.{doubled, undoubled}
 use Rattle.binary.specs.Frames.{content, framed, encode, errorOf, dataOf, opened, delimited, inner, innerOpened, decode, keptMark, binary}
@@ -44,20 +45,6 @@ inner-delimited d =
     let etx : getD f (length f - 1) 0 ≡ 3 = ap (λ (m : ℕ). getD f m 0) j ∙ getD-append-add d (16 ∷ 3 ∷ []) 1 0 in
     cond-true (delimited f) _ _ (is-delimited f (omega arith) refl refl dle etx)
     ∙ ap (λ (m : ℕ). Some (take m (d ++ 16 ∷ 3 ∷ []))) k ∙ ap (λ (z : List ℕ). Some z) (take-at d (16 ∷ 3 ∷ []) (length d) refl)
-
--- a list with its last two elements apart
-last-two : (r : List ℕ) → 2 ≤ length r → take (length r - 2) r ++ getD r (length r - 2) 0 ∷ getD r (length r - 1) 0 ∷ [] ≡ r
-last-two r h =
-    let two : length r - 2 < length r = omega arith in
-    let one : length r - 2 + 1 < length r = omega arith in
-    let end : length r ≤ length r - 2 + 1 + 1 = omega arith in
-    let e : length r - 1 ≡ length r - 2 + 1 = omega arith in
-    let tail : drop (length r - 2) r ≡ getD r (length r - 2) 0 ∷ getD r (length r - 2 + 1) 0 ∷ [] =
-    drop-more r (length r - 2) 0 two
-    ∙ ap (λ (z : List ℕ). getD r (length r - 2) 0 ∷ z) (drop-more r (length r - 2 + 1) 0 one)
-    ∙ ap (λ (z : List ℕ). getD r (length r - 2) 0 ∷ getD r (length r - 2 + 1) 0 ∷ z) (drop-all (length r - 2 + 1 + 1) r end) in
-    ap (λ (m : ℕ). take (length r - 2) r ++ getD r (length r - 2) 0 ∷ getD r m 0 ∷ []) e
-    ∙ ap (λ (z : List ℕ). take (length r - 2) r ++ z) (sym tail) ∙ take-append-drop (length r - 2) r
 
 -- a list with its first two and its last two elements apart
 apart : (f : List ℕ) → 4 ≤ length f

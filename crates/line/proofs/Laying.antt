@@ -2,12 +2,12 @@
 use mathlib.Core.Path.{_≡_, refl, sym, _∙_, ap}
 use mathlib.Core.List.{List, [], _∷_, _++_, append-assoc}
 use mathlib.Core.Logic.{inl, inr}
-use Prim.Native.Nat.{ℕ, _+_, _≤_, _<_, min}
+use Prim.Native.Nat.{ℕ, _+_, _-_, _≤_, _<_, min}
 use native.Mathlib.Nat.{zero-add, add-zero}
 use native.Mathlib.Numerals.{add-one}
 use native.Mathlib.Omega.{arith}
-use lib.ListN.{length, take, drop, set, length-append, length-take, length-drop}
-use Rattle.std.proofs.shelf.Lists.{take-all, take-at, drop-at, drop-drop, length-take-le, take-append-drop, set-split}
+use lib.ListN.{length, take, drop, set, getD, length-append, length-take, length-drop}
+use Rattle.std.proofs.shelf.Lists.{take-all, take-at, drop-all, drop-at, drop-drop, drop-more, length-take-le, take-append-drop, set-split}
 use Rattle.std.proofs.shelf.Tests.{cases-lt}
 use Rattle.line.specs.Calls.{startingWith, overlaid}
 
@@ -19,6 +19,20 @@ take-min n k xs e =
           let q : length xs ≤ k = omega arith in
           take-all k xs q ∙ sym (take-all n xs h)
     ]
+
+-- a list with its last two elements apart
+pub last-two : (r : List ℕ) → 2 ≤ length r → take (length r - 2) r ++ getD r (length r - 2) 0 ∷ getD r (length r - 1) 0 ∷ [] ≡ r
+last-two r h =
+    let two : length r - 2 < length r = omega arith in
+    let one : length r - 2 + 1 < length r = omega arith in
+    let end : length r ≤ length r - 2 + 1 + 1 = omega arith in
+    let e : length r - 1 ≡ length r - 2 + 1 = omega arith in
+    let tail : drop (length r - 2) r ≡ getD r (length r - 2) 0 ∷ getD r (length r - 2 + 1) 0 ∷ [] =
+    drop-more r (length r - 2) 0 two
+    ∙ ap (λ (z : List ℕ). getD r (length r - 2) 0 ∷ z) (drop-more r (length r - 2 + 1) 0 one)
+    ∙ ap (λ (z : List ℕ). getD r (length r - 2) 0 ∷ getD r (length r - 2 + 1) 0 ∷ z) (drop-all (length r - 2 + 1 + 1) r end) in
+    ap (λ (m : ℕ). take (length r - 2) r ++ getD r (length r - 2) 0 ∷ getD r m 0 ∷ []) e
+    ∙ ap (λ (z : List ℕ). take (length r - 2) r ++ z) (sym tail) ∙ take-append-drop (length r - 2) r
 
 set-overlaid : (e : List ℕ) (i b : ℕ) → i < length e → set e i b ≡ overlaid e i (b ∷ [])
 set-overlaid e i b h = set-split e i b h ∙ rw add-one refl
