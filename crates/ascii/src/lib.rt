@@ -5,6 +5,8 @@
 //!
 //! Each byte between 3A and 0D 0A is two capital hex digits, the high one first. The length counts the bytes behind it:
 //! the node and the data (2 to 65), or the code (1). A frame carries no mark.
+#![tactic(auto)]
+
 ghost use Rattle.std.specs.Prelude.{◌≡◌, ◌+◌, ◌*◌, ◌/◌, ◌%◌, ◌<◌, ◌≤◌, ◌∷◌, length, take, IfSome};
 ghost use Rattle.std.specs.Option.{option_map};
 ghost use Rattle.line.specs.Calls.{overlaid, starting_with};

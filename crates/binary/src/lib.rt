@@ -5,6 +5,8 @@
 //!
 //! Every byte 10 between 10 02 and 10 03 is doubled. The length counts the data bytes (1 to 64), doubles not counted.
 //! A frame's mark is the sequence number and, for an error message, the node.
+#![tactic(auto)]
+
 ghost use Rattle.std.specs.Prelude.{◌≡◌, ◌+◌, ◌*◌, ◌≤◌, ◌++◌, length, take, IfSome, Some};
 ghost use Rattle.std.specs.Option.{option_map};
 ghost use Rattle.line.specs.Calls.{answer_of, buffer_of, overlaid, starting_with};

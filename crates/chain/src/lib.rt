@@ -13,6 +13,8 @@
 //!
 //! A read names its row by p and q, and its g and x are only repeated in the answer. A text's p and q are followed by
 //! its length. `docs/PROTOCOL.md` has the whole of it.
+#![tactic(auto)]
+
 pub mod access;
 pub mod answer;
 pub mod check;

@@ -4,6 +4,8 @@
 //! `specs/Groups.antt` has groups of entries and the bytes that they are laid down in, `specs/Entries.antt` the entries of writes,
 //! of reads and of answers, and `specs/Format.antt` the statements. The functions here do nothing: each has statements for its
 //! contract, so that they are proved.
+#![tactic(auto)]
+
 ghost use Rattle.chain_format.specs.Format.{WritesTakenApart, WritesLaidDown, ReadsTakenApart, ReadsLaidDown, ReadsAnswered};
 
 /// A chain of writes that is laid down by the format is taken apart into its items, and nothing else is taken without a refusal.

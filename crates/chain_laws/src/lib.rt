@@ -1,5 +1,7 @@
 //! What holds of every chain, whatever its bytes and the table. The functions here do nothing: each has a statement for its
 //! contract, so that it is proved.
+#![tactic(auto)]
+
 ghost use Rattle.chain_laws.specs.Answers.{AnswersAreBytes, AnswersLieOver};
 ghost use Rattle.chain_laws.specs.Checks.{ChecksStand};
 ghost use Rattle.chain_laws.specs.Kept.{LastCounts};

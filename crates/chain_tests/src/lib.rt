@@ -1,4 +1,5 @@
 //! The checks of chains at their places, chains taken apart, and answers put together.
+#![tactic(auto)]
 
 #[cfg(test)]
 mod tests {

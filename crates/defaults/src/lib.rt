@@ -1,4 +1,6 @@
 //! Keeping the defaults of a table in any store.
+#![tactic(auto)]
+
 ghost use Rattle.std.specs.Prelude.{◌≡◌};
 ghost use Rattle.table.specs.Held.{rows_of};
 ghost use Rattle.promises.specs.Stored.{values_in};

@@ -6,6 +6,7 @@
 //!
 //! Inside a binary frame a 10 belongs together with the byte behind it: 10 10 is data, 10 03 the end,
 //! 10 02 the start of another frame, and any other pair is wrong.
+#![tactic(auto)]
 
 ghost use Rattle.std.specs.Prelude.{◌≡◌, ◌+◌, ◌<◌, ◌≤◌, length, take, drop, ◌≢◌};
 ghost use Rattle.finder.specs.First.{First};

@@ -1,4 +1,6 @@
 //! Messages on the line, and what every framing of them keeps.
+#![tactic(auto)]
+
 pub mod fault;
 pub mod framing;
 pub mod message;

@@ -1,4 +1,6 @@
 //! The listing: what is heard on the line, frame by frame.
+#![tactic(auto)]
+
 pub mod frames;
 mod heard;
 mod words;

@@ -8,6 +8,8 @@
 //! | float | `f32` (IEEE binary32) | 4 |
 //!
 //! The highest byte comes first.
+#![tactic(auto)]
+
 ghost use Rattle.std.specs.Prelude.{◌≡◌, Some};
 ghost use Rattle.std.specs.Option.{option_map};
 ghost use Rattle.value.specs.Values.{bytes_of};

@@ -4,6 +4,8 @@
 //! `docs/ORDER.md` tells the theorem and its proof in words. Its words are defined in `specs/Calls.antt` (calls, what is asked of
 //! them, when two meet, what a run gives) and `specs/Reordering.antt` (rearranged lists, and the theorem). The functions here do
 //! nothing: each has a statement for its contract, so that it is proved. `registers` has calls to which the theorem applies.
+#![tactic(auto)]
+
 pub mod registers;
 
 ghost use Rattle.order.specs.Calls.{Calls};

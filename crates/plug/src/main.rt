@@ -1,4 +1,6 @@
 //! Listens on a serial line: reads received bytes from standard input and lists the frames in them.
+#![tactic(auto)]
+
 use listing::frames::listing;
 use std::io::Read;
 

@@ -2,6 +2,8 @@
 //!
 //! `specs/` says what one call gives and leaves, and what is promised of every list of calls on a rack that was new: `Promised.antt` has
 //! the promises. The functions here do nothing: each has a statement for its contract, so that it is proved.
+#![tactic(auto)]
+
 pub mod outcome;
 
 ghost use Rattle.table.specs.Tables.{Ruled};

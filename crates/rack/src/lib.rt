@@ -1,4 +1,6 @@
 //! The rack: it answers frames.
+#![tactic(auto)]
+
 pub mod node;
 pub mod rack;
 mod replies;

@@ -1,4 +1,6 @@
 //! A read, answered from any store.
+#![tactic(auto)]
+
 ghost use Rattle.std.specs.Prelude.{◌≡◌, ◌<◌, length};
 ghost use Rattle.table.specs.Draws.{row_at};
 ghost use Rattle.table.specs.Held.{rows_of};

@@ -1,4 +1,6 @@
 // Where the values of a rack's rows are kept.
+#![tactic(auto)]
+
 ghost use Rattle.std.specs.Prelude.{◌≡◌, ℕ, List, length};
 ghost use Rattle.store.specs.Held.{Sound, ask_answer, buffer_after, held_after, keep_answer};
 

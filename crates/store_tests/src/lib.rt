@@ -1,4 +1,6 @@
 // Both stores against the rules, and against each other.
+#![tactic(auto)]
+
 #[cfg(test)]
 mod tests {
     use std::process::Abort;

@@ -1,4 +1,6 @@
 //! The table of a rack: its parameters, one to a row, and the feeds that some of them draw on.
+#![tactic(auto)]
+
 ghost use Rattle.std.specs.Prelude.{◌≡◌, ◌≤◌, true, map, length, take};
 ghost use Rattle.table.specs.Rows.{plain, is_reset};
 ghost use Rattle.table.specs.Draws.{row_at};

@@ -1,4 +1,5 @@
 //! The edges of number ranges, rows and tables.
+#![tactic(auto)]
 
 #[cfg(test)]
 mod tests {

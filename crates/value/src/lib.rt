@@ -1,4 +1,6 @@
 // The value of a parameter, as it is stored and sent.
+#![tactic(auto)]
+
 ghost use Rattle.std.specs.Prelude.{◌≡◌, ℕ, ◌<◌, ◌≤◌, length, take, slice_index};
 
 mod calls;

@@ -1,4 +1,6 @@
 //! Writes: what a message writes is checked as a whole, and then kept as a whole or not at all.
+#![tactic(auto)]
+
 ghost use Rattle.std.specs.Prelude.{◌≡◌, true};
 ghost use Rattle.table.specs.Held.{rows_of};
 ghost use Rattle.chain.specs.declared.access.Access.TheVariants.{Write};
