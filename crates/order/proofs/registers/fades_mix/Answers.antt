@@ -4,4 +4,4 @@ use Rattle.order.proofs.Fades.{mix, apart, not-crossed}
 use Rattle.order.proofs.registers.fades_mix.Goals as goal
 
 pub returns : goal.returns
-returns c = record { mixes = c.mixing-stands.ensures register_calls haze fog mixed mix apart; crosses = not-crossed }
+returns c = record { mixes = c.mixing_stands.ensures register_calls haze fog mixed mix apart; crosses = not-crossed }

@@ -3,4 +3,4 @@ use Rattle.order.proofs.RegisterCalls.{premises}
 use Rattle.order.proofs.registers.order_stands.Goals as goal
 
 pub returns : goal.returns
-returns c = c.reordering-stands.ensures register_calls premises
+returns c = c.reordering_stands.ensures register_calls premises

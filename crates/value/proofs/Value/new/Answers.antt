@@ -8,4 +8,4 @@ invariant-of-result c =
     (omega arith, (filled _ _ _ e (omega arith), (front_octets _ _ _ e c.type-inv.from, tt)))
 
 pub returns : goal.returns
-returns c = made _ c.args.from.now (front _ _ _ c.copy-from-slice.ensures.after) (omega arith)
+returns c = made _ c.args.from.now (front _ _ _ c.copy_from_slice.ensures.after) (omega arith)
