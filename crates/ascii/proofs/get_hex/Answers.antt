@@ -9,26 +9,26 @@ returns-then-digits-ne0 c = record { spells = spelled_odd c.args.digits.now c.if
 pub loop-n-init : goal.loop-n-init
 loop-n-init c = behind_nothing (spelled c.args.digits.now)
 
-pub returns-in-err-high : goal.returns-in-err-high
-returns-in-err-high c =
-    rw c.from-residual.ensures record {
-      spells = no_high c.args.digits.now c.loop-n.bytes c.loop-n.n (omega arith) c.loop-n.invariant c.in-err-high.ensures.value;
+pub returns-in_err-high : goal.returns-in_err-high
+returns-in_err-high c =
+    rw c.from_residual.ensures record {
+      spells = no_high c.args.digits.now c.loop-n.bytes c.loop-n.n (omega arith) c.loop-n.invariant c.in_err-high.ensures.value;
       count = tt;
     }
 
-pub returns-in-err-low : goal.returns-in-err-low
-returns-in-err-low c =
-    rw c.from-residual-in-err-low.ensures record {
+pub returns-in_err-low : goal.returns-in_err-low
+returns-in_err-low c =
+    rw c.from_residual-in_err-low.ensures record {
       spells =
           no_low c.args.digits.now c.loop-n.bytes c.loop-n.n (omega arith) c.loop-n.invariant
-          c.in-ok-high.high c.in-ok-high.ensures.value c.in-err-low.ensures.value;
+          c.in_ok-high.high c.in_ok-high.ensures.value c.in_err-low.ensures.value;
       count = tt;
     }
 
 pub loop-n-preserved : goal.loop-n-preserved
 loop-n-preserved c =
     one_more c.args.digits.now c.loop-n.bytes c.loop-n.n (omega arith) c.loop-n.invariant
-    c.in-ok-high.high c.in-ok-low.low c.in-ok-high.ensures.value c.in-ok-low.ensures.value (omega arith)
+    c.in_ok-high.high c.in_ok-low.low c.in_ok-high.ensures.value c.in_ok-low.ensures.value (omega arith)
 
 pub returns : goal.returns
 returns c =

@@ -4,8 +4,8 @@ use Rattle.ascii.proofs.put_frame.Goals as goal
 
 pub returns : goal.returns
 returns c =
-    let s = c.put-hex-start in
-    let e = c.put-hex-end in
+    let s = c.put_hex-start in
+    let e = c.put_hex-end in
     record {
       end = let l = length-framed c.args.first c.args.rest.now in omega arith;
       laid =

@@ -13,8 +13,8 @@ pub loop-b-preserved : goal.loop-b-preserved
 loop-b-preserved c = (
   omega arith,
   hexes_more c.args.frame.now c.args.bytes.now c.loop-b.frame c.args.start c.loop-b.b-index
-      c.loop-b.end c.hex-pair-high.result.0 c.hex-pair-high.result.1 c.loop-b.invariant.1 c.loop-b.invariant.0 c.loop-b-test.true
-      c.requires (ap (λ (p : ℕ × ℕ). p.0) c.hex-pair-high.ensures) (ap (λ (p : ℕ × ℕ). p.1) c.hex-pair-high.ensures),
+      c.loop-b.end c.hex_pair-high.result.0 c.hex_pair-high.result.1 c.loop-b.invariant.1 c.loop-b.invariant.0 c.loop-b-test.true
+      c.requires (ap (λ (p : ℕ × ℕ). p.0) c.hex_pair-high.ensures) (ap (λ (p : ℕ × ℕ). p.1) c.hex_pair-high.ensures),
 )
 
 pub returns : goal.returns

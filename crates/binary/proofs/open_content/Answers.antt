@@ -13,11 +13,11 @@ pub returns : goal.returns
 returns c =
     let p = c.args.content.now in
     let three : 3 ≤ length p = omega (arith, ltb-false) in
-    let e = opened_data p three c.if-len-eq0.false c.if-len-rest.false c.if-len-gt-MAX-DATA.false in
+    let e = opened_data p three c.if-len-eq0.false c.if-len-rest.false c.if-len-gt-MAX_DATA.false in
     record {
       answer =
           ap (λ (k : ℕ). Ok (record { sequence = get_or p 0 0; node = 0 }, unpacked.Data (get_or p 1 0) k)) c.if-len-rest.false ∙ sym (ap answer_of e);
       after =
-          read_start (behind_length p) c.copy-from-slice.new.self c.args.buffer.now _ c.copy-from-slice.ensures.after (omega (arith, c.if-len-rest.false))
+          read_start (behind_length p) c.copy_from_slice.new.self c.args.buffer.now _ c.copy_from_slice.ensures.after (omega (arith, c.if-len-rest.false))
           ∙ sym (ap (λ (z : Result (Mark × Msg) Flaw). buffer_of z c.args.buffer.now) e);
     }

@@ -4,8 +4,8 @@ use Rattle.binary.proofs.put_frame.Goals as goal
 
 pub returns : goal.returns
 returns c =
-    let s = c.put-doubled-start in
-    let e = c.put-doubled-end in
+    let s = c.put_doubled-start in
+    let e = c.put_doubled-end in
     record {
       end = frame_end c.args.head c.args.rest.now s.result e.result s.ensures.end e.ensures.end;
       laid =

@@ -67,8 +67,8 @@ further c =
     let l = length-drop c.loop-place.place c.args.received.now in
     (omega arith, omega arith)
 
-pub overflow-add-place : goal.overflow-add-place
-overflow-add-place c = let w = further c in search rules
+pub overflow_add-place : goal.overflow_add-place
+overflow_add-place c = let w = further c in search rules
 
 pub loop-place-smaller-in-Restarts : goal.loop-place-smaller-in-Restarts
 loop-place-smaller-in-Restarts c = let w = further c in omega arith

@@ -13,9 +13,9 @@ use Rattle.readout.proofs.put_row.Goals.{In-Ok}
 numbered : (g : given.Over) (c : goal.In-Ok g) → c.args.query.row < 128
 numbered g c = omega (arith, c.requires, (table_ruled c.args.table.now).few)
 
-pub slice-bounds-put-end : goal.slice-bounds-put-end
-slice-bounds-put-end g c =
-    let i = (goal.at.slice-bounds-put-end g c).In-Ok in
+pub slice_bounds-put-end : goal.slice_bounds-put-end
+slice_bounds-put-end g c =
+    let i = (goal.at.slice_bounds-put-end g c).In-Ok in
     let hs = g.S.Store.held c.args.store.now in
     omega (arith, asked_length hs c.args.query.row c.in-Ok.len (replicate 24 0) (numbered g i) (omega arith) c.in-Ok.ensures.answer, (g.met.S.Store.sound c.args.store.now).short c.args.query.row, c.ask.auto.buffer)
 

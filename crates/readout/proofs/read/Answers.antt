@@ -20,12 +20,12 @@ use Rattle.readout.proofs.read.Goals.{In-Some}
 
 -- the item of a turn is the first of those left
 item_told : (g : over.Over) (c : goal.In-Some g) → Ok (Some (plain_item c.in-Some.item)) ≡ given (remaining c.loop-item.chain)
-item_told g c = ap (λ (o : Option Item). told (Ok o)) (sym c.in-Some.is) ∙ c.in-ok-item.ensures.item
+item_told g c = ap (λ (o : Option Item). told (Ok o)) (sym c.in-Some.is) ∙ c.in_ok-item.ensures.item
 
 one_fewer : (g : over.Over) (c : goal.In-Some g) → length (remaining c.next.new.self).items < length (remaining c.loop-item.chain).items
 one_fewer g c =
     let i = item_given (remaining c.loop-item.chain) (plain_item c.in-Some.item) (item_told g c) in
-    omega (arith, ap length i, ap (λ (w : Walked). length w.items) c.in-ok-item.ensures.rest)
+    omega (arith, ap length i, ap (λ (w : Walked). length w.items) c.in_ok-item.ensures.rest)
 
 -- it and those behind it are for rows of the table
 abbrev OfTable : (g : over.Over) → goal.In-Some g → PlainItem → Type 0
@@ -34,7 +34,7 @@ OfTable g c x = row_of x < length (rows_of c.args.table.now)
 of_table : (g : over.Over) (c : goal.In-Some g) → OfTable g c (plain_item c.in-Some.item) × All (OfTable g c) (remaining c.next.new.self).items
 of_table g c =
     let a = all_given (OfTable g c) (remaining c.loop-item.chain) (plain_item c.in-Some.item) (item_told g c) c.loop-item.invariant.1 in
-    (a.0, subst (λ (w : Walked). All (OfTable g c) w.items) (sym c.in-ok-item.ensures.rest) a.1)
+    (a.0, subst (λ (w : Walked). All (OfTable g c) w.items) (sym c.in_ok-item.ensures.rest) a.1)
 
 abbrev values_of : (g : over.Over) → goal.In-Some g → Values
 values_of g c = values_in (g.S.Store.held c.args.store.now)
@@ -51,16 +51,16 @@ loop-item-init g c =
       subst (λ (w : Walked). All (λ x. row_of x < length rows) w.items) (sym c.new-chain.ensures) (rows_of_table rows c.args.message.now),
     )
 
-pub returns-in-err-item : goal.returns-in-err-item
-returns-in-err-item g c =
-    let p = err_from_is_err_and c.from-residual.result c.from-residual.ensures.1 in
+pub returns-in_err-item : goal.returns-in_err-item
+returns-in_err-item g c =
+    let p = err_from_is_err_and c.from_residual.result c.from_residual.ensures.1 in
     ap answer_of p.1 ∙ ap (λ (f : RackFault). Err f) p.2
     ∙ at_refusal (rows_of c.args.table.now) (values_in (g.S.Store.held c.args.store.now)) _ (built c.loop-item.answer) (remaining c.loop-item.chain) c.loop-item.invariant.0
-    c.in-err-item.field-0.0 c.in-err-item.ensures.item
+    c.in_err-item.field-0.0 c.in_err-item.ensures.item
 
-pub put-row-requires : goal.put-row-requires
-put-row-requires g c =
-    let i = (goal.at.put-row-requires g c).In-Some in
+pub put_row-requires : goal.put_row-requires
+put_row-requires g c =
+    let i = (goal.at.put_row-requires g c).In-Some in
     subst (λ (x : Item). OfTable g i (plain_item x)) c.in-Read.is (of_table g i).0
 
 pub loop-item-smaller : goal.loop-item-smaller
@@ -71,32 +71,32 @@ loop-item-preserved g c =
     let i = (goal.at.loop-item-preserved g c).In-Some in (
       put_behind (rows_of c.args.table.now) (values_of g i) (whole_of g i) (built c.loop-item.answer) (remaining c.loop-item.chain) c.loop-item.invariant.0
           c.in-Read.query (sym (ap (λ (x : Item). Ok (Some (plain_item x))) c.in-Read.is) ∙ item_told g i)
-          (built c.put-row.new.answer) (remaining c.next.new.self) c.in-ok-item.ensures.rest
-          c.in-ok-put-row.ensures.answer c.in-ok-put-row.ensures.after,
+          (built c.put_row.new.answer) (remaining c.next.new.self) c.in_ok-item.ensures.rest
+          c.in_ok-put_row.ensures.answer c.in_ok-put_row.ensures.after,
       (of_table g i).1,
     )
 
-pub returns-in-err-put-row : goal.returns-in-err-put-row
-returns-in-err-put-row g c =
-    let i = (goal.at.returns-in-err-put-row g c).In-Some in
-    let p = err_from_is_err_and c.from-residual-in-err-put-row.result c.from-residual-in-err-put-row.ensures.1 in
+pub returns-in_err-put_row : goal.returns-in_err-put_row
+returns-in_err-put_row g c =
+    let i = (goal.at.returns-in_err-put_row g c).In-Some in
+    let p = err_from_is_err_and c.from_residual-in_err-put_row.result c.from_residual-in_err-put_row.ensures.1 in
     ap answer_of p.1 ∙ ap (λ (f : RackFault). Err f) p.2
     ∙ at_too_long (rows_of c.args.table.now) (values_of g i) (whole_of g i) (built c.loop-item.answer) (remaining c.loop-item.chain) c.loop-item.invariant.0
     c.in-Read.query (sym (ap (λ (x : Item). Ok (Some (plain_item x))) c.in-Read.is) ∙ item_told g i)
-    c.in-err-put-row.field-0.0 c.in-err-put-row.ensures.answer
+    c.in_err-put_row.field-0.0 c.in_err-put_row.ensures.answer
 
-pub loop-item-smaller-in-default-item : goal.loop-item-smaller-in-default-item
-loop-item-smaller-in-default-item g c = one_fewer g (goal.at.loop-item-smaller-in-default-item g c).In-Some
+pub loop-item-smaller-in_default-item : goal.loop-item-smaller-in_default-item
+loop-item-smaller-in_default-item g c = one_fewer g (goal.at.loop-item-smaller-in_default-item g c).In-Some
 
-pub loop-item-preserved-in-default-item : goal.loop-item-preserved-in-default-item
-loop-item-preserved-in-default-item g c =
-    let i = (goal.at.loop-item-preserved-in-default-item g c).In-Some in (
+pub loop-item-preserved-in_default-item : goal.loop-item-preserved-in_default-item
+loop-item-preserved-in_default-item g c =
+    let i = (goal.at.loop-item-preserved-in_default-item g c).In-Some in (
       passed_over (rows_of c.args.table.now) (values_of g i) (whole_of g i) (built c.loop-item.answer) (remaining c.loop-item.chain) c.loop-item.invariant.0
-          _ _ _ (remaining c.next.new.self) (sym (ap (λ (x : Item). Ok (Some (plain_item x))) c.in-default-item.is) ∙ item_told g i) c.in-ok-item.ensures.rest,
+          _ _ _ (remaining c.next.new.self) (sym (ap (λ (x : Item). Ok (Some (plain_item x))) c.in_default-item.is) ∙ item_told g i) c.in_ok-item.ensures.rest,
       (of_table g i).1,
     )
 
 pub returns : goal.returns
 returns g c =
     at_end (rows_of c.args.table.now) (values_in (g.S.Store.held c.args.store.now)) _ (built c.loop-item.answer) (remaining c.loop-item.chain) c.loop-item.invariant.0
-    (ap (λ (o : Option Item). told (Ok o)) (sym c.in-default.is) ∙ c.in-ok-item.ensures.item)
+    (ap (λ (o : Option Item). told (Ok o)) (sym c.in_default.is) ∙ c.in_ok-item.ensures.item)

@@ -4,13 +4,13 @@ use Rattle.writing.specs.Setups.{setup_of}
 use Rattle.writing.proofs.Whole.{chain_refuses, feeds_refuse}
 use Rattle.writing.proofs.check_write.Goals as goal
 
-pub returns-in-err-check : goal.returns-in-err-check
-returns-in-err-check g c =
-    let p = err_from_is_err_and c.from-residual.result c.from-residual.ensures.1 in
-    chain_refuses (setup_of c.args.table.now) (values_in (g.S.Store.held c.args.store.now)) c.args.message.now c.is-unlocked.result c.is-unlocked.ensures
-    c.from-residual.result c.in-err-check.field-0.0 p.0 p.1 p.2 c.in-err-check.ensures
+pub returns-in_err-check : goal.returns-in_err-check
+returns-in_err-check g c =
+    let p = err_from_is_err_and c.from_residual.result c.from_residual.ensures.1 in
+    chain_refuses (setup_of c.args.table.now) (values_in (g.S.Store.held c.args.store.now)) c.args.message.now c.is_unlocked.result c.is_unlocked.ensures
+    c.from_residual.result c.in_err-check.field-0.0 p.0 p.1 p.2 c.in_err-check.ensures
 
 pub returns : goal.returns
 returns g c =
-    feeds_refuse (setup_of c.args.table.now) (values_in (g.S.Store.held c.args.store.now)) c.args.message.now c.is-unlocked.result c.is-unlocked.ensures
-    c.check-feeds.result c.in-ok-check.ensures c.check-feeds.ensures
+    feeds_refuse (setup_of c.args.table.now) (values_in (g.S.Store.held c.args.store.now)) c.args.message.now c.is_unlocked.result c.is_unlocked.ensures
+    c.check_feeds.result c.in_ok-check.ensures c.check_feeds.ensures

@@ -9,16 +9,16 @@ use Rattle.writing.specs.Setups.{setup_of}
 use Rattle.writing.proofs.Whole.{refusal_told, none_kept, all_kept}
 use Rattle.writing.proofs.write.Goals as goal
 
-pub returns-in-err-check-write : goal.returns-in-err-check-write
-returns-in-err-check-write g c =
+pub returns-in_err-check_write : goal.returns-in_err-check_write
+returns-in_err-check_write g c =
     let held = g.S.Store.held c.args.store.now in
     let w = chain_of (Write true) (rows_of c.args.table.now) c.args.message.now in
     let o = write_refusal (setup_of c.args.table.now) (values_in held) w in
-    let f = c.in-err-check-write.field-0.0 in
-    let p = err_from_is_err_and c.from-residual.result c.from-residual.ensures.1 in
+    let f = c.in_err-check_write.field-0.0 in
+    let p = err_from_is_err_and c.from_residual.result c.from_residual.ensures.1 in
     record {
-      answer = refusal_told c.from-residual.result o f p.0 p.1 p.2 c.in-err-check-write.ensures;
-      after = none_kept o f w.items held c.in-err-check-write.ensures;
+      answer = refusal_told c.from_residual.result o f p.0 p.1 p.2 c.in_err-check_write.ensures;
+      after = none_kept o f w.items held c.in_err-check_write.ensures;
     }
 
 pub returns : goal.returns
@@ -27,6 +27,6 @@ returns g c =
     let w = chain_of (Write true) (rows_of c.args.table.now) c.args.message.now in
     let o = write_refusal (setup_of c.args.table.now) (values_in held) w in
     record {
-      answer = c.in-ok-check-write.ensures;
-      after = all_kept o w.items held (g.S.Store.held c.apply.new.store) c.in-ok-check-write.ensures c.apply.ensures;
+      answer = c.in_ok-check_write.ensures;
+      after = all_kept o w.items held (g.S.Store.held c.apply.new.store) c.in_ok-check_write.ensures c.apply.ensures;
     }

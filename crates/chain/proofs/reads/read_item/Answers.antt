@@ -11,6 +11,6 @@ returns c =
     let h = first_and_rest c.args.rest.now some in
     let low : get_or c.args.rest.now 0 0 < 128 = omega (arith, c.if-process-ge128.false) in
     record {
-      value = c.read-parameter.ensures.value ∙ read_look _ _ _ _ _ _ c.args.rest.now _ h low (sym c.if-not-has-process.ensures.value);
-      fits = IfOk-weaker c.read-parameter.result _ _ (λ t b. omega (arith, ap length h)) c.read-parameter.ensures.fits;
+      value = c.read_parameter.ensures.value ∙ read_look _ _ _ _ _ _ c.args.rest.now _ h low (sym c.if-not-has_process.ensures.value);
+      fits = IfOk-weaker c.read_parameter.result _ _ (λ t b. omega (arith, ap length h)) c.read_parameter.ensures.fits;
     }

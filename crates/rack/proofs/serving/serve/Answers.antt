@@ -17,8 +17,8 @@ returns-in-Ok g c =
     let held = g.S.Store.held c.args.store.now in
     let e = commanded c.args.own c.args.node c.args.table.now c.in-Ok.command c.args.message.now c.in-Ok.ensures in
     record {
-      reply = c.serve-command.ensures.reply ∙ reply_any c.args.own c.args.table.now (values_in held) _ ∙ ap (λ (r : Request). reply_to s (values_in held) r) (sym e);
-      after = c.serve-command.ensures.after ∙ ap (λ (x : List PlainItem). kept_in_store x held) (kept_any c.args.own c.args.table.now (values_in held) _)
+      reply = c.serve_command.ensures.reply ∙ reply_any c.args.own c.args.table.now (values_in held) _ ∙ ap (λ (r : Request). reply_to s (values_in held) r) (sym e);
+      after = c.serve_command.ensures.after ∙ ap (λ (x : List PlainItem). kept_in_store x held) (kept_any c.args.own c.args.table.now (values_in held) _)
           ∙ ap (λ (r : Request). kept_in_store (kept_items s (values_in held) r) held) (sym e);
     }
 

@@ -12,8 +12,8 @@ listed c = let t = c.args.self.now in omega (arith, place_free t.count t.limits 
 pub bounds-self-self : goal.bounds-self-self
 bounds-self-self c = let t = c.args.self.now in place_free t.count t.limits (rows_of t) (plain c.args.row) (kept t) c.in-None.ensures
 
-pub invariant-of-self : goal.invariant-of-self
-invariant-of-self c =
+pub invariant_of-self : goal.invariant_of-self
+invariant_of-self c =
     let t = c.args.self.now in
     let e = c.in-None.ensures in
     let free = place_free t.count t.limits (rows_of t) (plain c.args.row) (kept t) e in (

@@ -8,8 +8,8 @@ use Rattle.table.proofs.Table.default_draw.Goals as goal
 pub returns : goal.returns
 returns c = record {
   value =
-      c.draw-of.ensures.value
-      ∙ draw-defaults c.args.feed c.rows-rows.result.now c.default-numbers.result c.default-numbers.ensures
+      c.draw_of.ensures.value
+      ∙ draw-defaults c.args.feed c.rows-rows.result.now c.default_numbers.result c.default_numbers.ensures
       ∙ ap (λ (rows : List Row). draw c.args.feed (map plain rows) (default_numbers (map plain rows))) c.rows-rows.ensures;
-  bound = c.draw-of.ensures.bound;
+  bound = c.draw_of.ensures.bound;
 }

@@ -10,5 +10,5 @@ pub returns-in-Some : goal.returns-in-Some
 returns-in-Some c =
     let rows = rows_of c.args.self.now in
     let n = c.args.number in
-    let h = default_given (row_at rows n) c.default-value.result (ltb n (length rows)) (plain c.in-Some.row.now) (row_ruled rows c.args.self.now.lawful n) c.in-Some.ensures c.default-value.ensures.value c.default-value.ensures.back in
+    let h = default_given (row_at rows n) c.default_value.result (ltb n (length rows)) (plain c.in-Some.row.now) (row_ruled rows c.args.self.now.lawful n) c.in-Some.ensures c.default_value.ensures.value c.default_value.ensures.back in
     record { value = h.0; fits = h.1 }

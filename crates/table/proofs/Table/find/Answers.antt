@@ -12,5 +12,5 @@ returns c =
     let p = c.args.process in
     let q = c.args.parameter in
     let t = c.args.self.now in
-    let e : c.find-in.result ≡ place p q (rows_of t) = c.find-in.ensures ∙ ap (λ (rows : List Row). place p q (map plain rows)) c.rows.ensures in
+    let e : c.find_in.result ≡ place p q (rows_of t) = c.find_in.ensures ∙ ap (λ (rows : List Row). place p q (map plain rows)) c.rows.ensures in
     record { value = e; only = subst (OnlyPlace p q (rows_of t)) (sym e) (only_place p q (rows_of t) t.distinct); ruled = table_ruled t }

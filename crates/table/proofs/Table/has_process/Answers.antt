@@ -10,5 +10,5 @@ pub returns : goal.returns
 returns c =
     let p = c.args.process in
     let rows = rows_of c.args.self.now in
-    let e : c.has-process-in.result ≡ has_process p rows = c.has-process-in.ensures ∙ ap (λ (rows : List Row). has_process p (map plain rows)) c.rows.ensures in
+    let e : c.has_process_in.result ≡ has_process p rows = c.has_process_in.ensures ∙ ap (λ (rows : List Row). has_process p (map plain rows)) c.rows.ensures in
     record { value = e; tells = tells p rows _ (sym e) }

@@ -5,8 +5,8 @@ use Rattle.table.proofs.Facts.{kept}
 use Rattle.table.proofs.Limits.{kept_limited}
 use Rattle.table.proofs.Table.set_limit.Goals as goal
 
-pub invariant-of-self : goal.invariant-of-self
-invariant-of-self c =
+pub invariant_of-self : goal.invariant_of-self
+invariant_of-self c =
     let t = c.args.self.now in
-    let draw = subst (λ (n : ℕ). n ≤ c.args.limit * 32000) c.default-draw.ensures.value (leb-true _ _ (sym c.if-not-within-limit.ensures)) in
-    (t.slotted, kept_limited t.count t.limits (rows_of t) c.args.feed c.args.limit (kept t) (omega arith) c.if-feed-gt-FEEDS.false c.if-limit-gt-MAX-FLOW.false draw)
+    let draw = subst (λ (n : ℕ). n ≤ c.args.limit * 32000) c.default_draw.ensures.value (leb-true _ _ (sym c.if-not-within_limit.ensures)) in
+    (t.slotted, kept_limited t.count t.limits (rows_of t) c.args.feed c.args.limit (kept t) (omega arith) c.if-feed-gt-FEEDS.false c.if-limit-gt-MAX_FLOW.false draw)

@@ -4,4 +4,4 @@ use Rattle.table.proofs.Places.{place-taken}
 use Rattle.table.proofs.Table.takes_pair.Goals as goal
 
 pub returns : goal.returns
-returns c = c.is-some.ensures ∙ ap is_some c.find.ensures.value ∙ place-taken c.args.process c.args.parameter (rows_of c.args.self.now)
+returns c = c.is_some.ensures ∙ ap is_some c.find.ensures.value ∙ place-taken c.args.process c.args.parameter (rows_of c.args.self.now)

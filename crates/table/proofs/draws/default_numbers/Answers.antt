@@ -8,5 +8,5 @@ pub loop-i-preserved : goal.loop-i-preserved
 loop-i-preserved c =
     let rows = c.args.rows.now in (
       simp length-set c.loop-i.invariant.0,
-      numbers_more c.loop-i.numbers (default_numbers (map plain rows)) c.loop-i.i c.default-number.result (omega arith) (c.default-number.ensures ∙ default_at rows c.loop-i.i c.index-rows-i.result c.index-rows-i.is c.loop-i-test.true) c.loop-i.invariant.1,
+      numbers_more c.loop-i.numbers (default_numbers (map plain rows)) c.loop-i.i c.default_number.result (omega arith) (c.default_number.ensures ∙ default_at rows c.loop-i.i c.index-rows-i.result c.index-rows-i.is c.loop-i-test.true) c.loop-i.invariant.1,
     )

@@ -12,5 +12,5 @@ pub returns : goal.returns
 returns g c =
     let table = c.args.table.now in
     let ruled = table_ruled table in
-    numbers_refuse (setup_of table) (values_in (g.S.Store.held c.args.store.now)) (chain_of (Write true) (rows_of table) c.args.message.now).items c.held-numbers-numbers.result c.lay-over.new.numbers
-    c.check-numbers.result (omega (arith, ruled.few, c.lay-over.array_long)) c.lay-over.ensures c.held-numbers-numbers.ensures c.check-numbers.ensures
+    numbers_refuse (setup_of table) (values_in (g.S.Store.held c.args.store.now)) (chain_of (Write true) (rows_of table) c.args.message.now).items c.held_numbers-numbers.result c.lay_over.new.numbers
+    c.check_numbers.result (omega (arith, ruled.few, c.lay_over.array_long)) c.lay_over.ensures c.held_numbers-numbers.ensures c.check_numbers.ensures

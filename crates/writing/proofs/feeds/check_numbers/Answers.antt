@@ -11,7 +11,7 @@ pub loop-feed-preserved : goal.loop-feed-preserved
 loop-feed-preserved c =
     let table = c.args.table.now in
     let check = over_at (setup_of table) c.args.numbers.now (chain_of (Write true) (rows_of table) c.args.message.now).items in
-    feed_passes check c.loop-feed.feed (omega arith) _ c.loop-feed.invariant (omega arith) c.in-default.ensures
+    feed_passes check c.loop-feed.feed (omega arith) _ c.loop-feed.invariant (omega arith) c.in_default.ensures
 
 pub returns-in-Some : goal.returns-in-Some
 returns-in-Some c =

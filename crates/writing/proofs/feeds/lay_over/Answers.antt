@@ -15,22 +15,22 @@ loop-item-init c =
       items_fit (rows_of table) (limits_of table) c.args.message.now (remaining c.items-chain.result) (table_ruled table) c.items-chain.ensures,
     )
 
-pub lay-item-requires : goal.lay-item-requires
-lay-item-requires c = row_fits (remaining c.loop-item.chain).items (plain_item c.in-Some.item) c.in-Some.ensures.item c.loop-item.invariant.1
+pub lay_item-requires : goal.lay_item-requires
+lay_item-requires c = row_fits (remaining c.loop-item.chain).items (plain_item c.in-Some.item) c.in-Some.ensures.item c.loop-item.invariant.1
 
 pub loop-item-smaller : goal.loop-item-smaller
 loop-item-smaller c =
-    fewer (remaining c.loop-item.chain).items (remaining c.next-item.new.chain).items (plain_item c.in-Some.item) c.in-Some.ensures.item c.in-Some.ensures.rest
+    fewer (remaining c.loop-item.chain).items (remaining c.next_item.new.chain).items (plain_item c.in-Some.item) c.in-Some.ensures.item c.in-Some.ensures.rest
 
 pub loop-item-preserved : goal.loop-item-preserved
 loop-item-preserved c =
     let items = (remaining c.loop-item.chain).items in
-    let rest = (remaining c.next-item.new.chain).items in (
-      laid_on items rest (plain_item c.in-Some.item) c.loop-item.numbers c.lay-item.new.numbers _ c.in-Some.ensures.item c.in-Some.ensures.rest c.lay-item.ensures c.loop-item.invariant.0,
+    let rest = (remaining c.next_item.new.chain).items in (
+      laid_on items rest (plain_item c.in-Some.item) c.loop-item.numbers c.lay_item.new.numbers _ c.in-Some.ensures.item c.in-Some.ensures.rest c.lay_item.ensures c.loop-item.invariant.0,
       rows_fit items rest c.in-Some.ensures.rest c.loop-item.invariant.1,
     )
 
 pub returns : goal.returns
 returns c =
-    laid_end (remaining c.loop-item.chain).items c.loop-item.numbers _ c.in-default.ensures.item c.loop-item.invariant.0
+    laid_end (remaining c.loop-item.chain).items c.loop-item.numbers _ c.in_default.ensures.item c.loop-item.invariant.0
     ∙ ap (λ (w : Walked). lay_numbers w.items c.args.numbers.now) c.items-chain.ensures

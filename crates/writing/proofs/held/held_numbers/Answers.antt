@@ -10,6 +10,6 @@ loop-row-preserved g c =
     let held = g.S.Store.held c.args.store.now in
     let ruled = table_ruled c.args.table.now in (
       simp length-set c.loop-row.invariant.0,
-      numbers_more c.loop-row.numbers (numbers (values_in held)) c.loop-row.row c.unwrap-or.result (omega (arith, ruled.few))
-          (number_read c.unwrap-or.result c.held-number.result (values_in held c.loop-row.row) c.unwrap-or.ensures c.held-number.ensures) c.loop-row.invariant.1,
+      numbers_more c.loop-row.numbers (numbers (values_in held)) c.loop-row.row c.unwrap_or.result (omega (arith, ruled.few))
+          (number_read c.unwrap_or.result c.held_number.result (values_in held c.loop-row.row) c.unwrap_or.ensures c.held_number.ensures) c.loop-row.invariant.1,
     )

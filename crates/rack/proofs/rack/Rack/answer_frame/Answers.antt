@@ -10,8 +10,8 @@ use Rattle.rack.specs.Racks.{frame_for}
 use Rattle.rack.specs.Serving.{setup}
 use Rattle.rack.proofs.rack.Rack.answer_frame.Goals as goal
 
-pub answer-data-requires : goal.answer-data-requires
-answer-data-requires g c =
+pub answer_data-requires : goal.answer_data-requires
+answer_data-requires g c =
     let laws = g.met.F.Framing.lawful c.args.framing.now in
     let f = laws.reads_framable _ _ c.args.frame.now (sym c.in-Ok.ensures.read) in
     (c.requires, (subst Framable (sym c.in-Data.ensures) f).1)
@@ -27,9 +27,9 @@ returns-in-Err g c =
     let e = c.in-Err.ensures.read in
     let X = Result (g.row.F-Mark.Denot × Msg) Flaw in
     record {
-      len = c.answer-unreadable.ensures.len s h ∙ ap (λ (x : X). length (frame_for R x (reply_to s h (frame_request s b (result_map_both (λ p. p.1) (λ f. f) x))).message)) e;
-      after = c.answer-unreadable.ensures.after s h ∙ ap (λ (x : X). starting_with (frame_for R x (reply_to s h (frame_request s b (result_map_both (λ p. p.1) (λ f. f) x))).message) c.args.buffer.now) e;
-      fault = c.answer-unreadable.ensures.fault s h ∙ ap (λ (x : X). (reply_to s h (frame_request s b (result_map_both (λ p. p.1) (λ f. f) x))).fault) e;
+      len = c.answer_unreadable.ensures.len s h ∙ ap (λ (x : X). length (frame_for R x (reply_to s h (frame_request s b (result_map_both (λ p. p.1) (λ f. f) x))).message)) e;
+      after = c.answer_unreadable.ensures.after s h ∙ ap (λ (x : X). starting_with (frame_for R x (reply_to s h (frame_request s b (result_map_both (λ p. p.1) (λ f. f) x))).message) c.args.buffer.now) e;
+      fault = c.answer_unreadable.ensures.fault s h ∙ ap (λ (x : X). (reply_to s h (frame_request s b (result_map_both (λ p. p.1) (λ f. f) x))).fault) e;
       held = ap (λ (x : X). kept_in_store (kept_items s h (frame_request s b (result_map_both (λ p. p.1) (λ f. f) x))) held) e;
       same = (refl, refl);
     }

@@ -13,12 +13,12 @@ pub loop-i-init : goal.loop-i-init
 loop-i-init c =
     let es = entries_of c.args.changes.now in
     let P : List ℕ → Type 0 = λ places. Told 0 es places in
-    ((refl, subst P (sym c.newest-places-places.ensures) (places_told es 0 (replicate 128 0) (entries_below c.args.changes.now) refl)), lit≤ tt, refl)
+    ((refl, subst P (sym c.newest_places-places.ensures) (places_told es 0 (replicate 128 0) (entries_below c.args.changes.now) refl)), lit≤ tt, refl)
 
 pub loop-i-preserved : goal.loop-i-preserved
 loop-i-preserved c =
     let xs = c.loop-i.changes in
-    let places = c.newest-places-places.result in
+    let places = c.newest_places-places.result in
     let i = c.loop-i.i in
     let k = c.loop-i.count in
     let x = c.index-changes-i.result in

@@ -10,6 +10,6 @@ returns c =
     let held = cells_held c.args.self.now in
     let e = get_or-map bytes_of c.args.self.now.cells c.args.row c.index-self-row.result [] (omega arith) in
     record {
-      answer = ask_answered held c.args.row _ _ c.write-value.result (omega arith) (omega arith) e c.write-value.ensures.answer;
-      after = asked held c.args.row _ c.args.buffer.now c.write-value.new.buffer (omega arith) (omega arith) e c.write-value.ensures.after;
+      answer = ask_answered held c.args.row _ _ c.write_value.result (omega arith) (omega arith) e c.write_value.ensures.answer;
+      after = asked held c.args.row _ c.args.buffer.now c.write_value.new.buffer (omega arith) (omega arith) e c.write_value.ensures.after;
     }

@@ -9,10 +9,10 @@ pub returns : goal.returns
 returns c =
     let held = changes_held c.args.self.now in
     let before = c.args.buffer.now in
-    let after = c.write-value.new.buffer in
+    let after = c.write_value.new.buffer in
     let e : bytes_of c.latest-value.result ≡ get_or held c.args.row [] = search rules in
     record {
-      answer = ask_answered held c.args.row _ _ c.write-value.result (omega arith) (omega arith) (sym e) c.write-value.ensures.answer;
-      after = asked held c.args.row _ before after (omega arith) (omega arith) (sym e) c.write-value.ensures.after;
-      newest = asked_counts c.args.row (list_of c.args.self.now) _ before after c.write-value.result (omega arith) e c.write-value.ensures.answer c.write-value.ensures.after;
+      answer = ask_answered held c.args.row _ _ c.write_value.result (omega arith) (omega arith) (sym e) c.write_value.ensures.answer;
+      after = asked held c.args.row _ before after (omega arith) (omega arith) (sym e) c.write_value.ensures.after;
+      newest = asked_counts c.args.row (list_of c.args.self.now) _ before after c.write_value.result (omega arith) e c.write_value.ensures.answer c.write_value.ensures.after;
     }
