@@ -1,5 +1,5 @@
 -- The laws of the four kinds.
-use Rattle.std.specs.Prelude.{◌≡◌, ℕ, ◌<◌, Bool, true, false, cond, not, T, List, length, is_some, Some, None, Option, from_bits, is-nan, to_bits, refl, Float}
+use Rattle.std.specs.Prelude.{◌≡◌, ℕ, ◌<◌, Bool, true, false, cond, not, T, List, length, is_some, Some, None, Option, from_bits, is_nan, to_bits, refl, Float}
 use Rattle.std.proofs.Common.{sym, ap, subst, ◌∙◌, arith, rules}
 use Rattle.std.specs.Float.Ieee as Ieee
 use Rattle.std.specs.Float.{binary32}
@@ -36,27 +36,27 @@ float_sized : (bs : List ℕ) (o : Option ℕ) (x : Float) → of_four bs ≡ o 
 float_sized bs None x p e = nothing_is_some e
 float_sized bs (Some n) x p e = four_sized bs n p
 
-pattern_again : (b : Bool) (n : ℕ) (x : Float) → is-nan (from_bits binary32 n) ≡ b → n < 4294967296 → cond b None (Some (from_bits binary32 n)) ≡ Some x →
-    (is-nan x ≡ false) × (to_bits binary32 x ≡ n)
+pattern_again : (b : Bool) (n : ℕ) (x : Float) → is_nan (from_bits binary32 n) ≡ b → n < 4294967296 → cond b None (Some (from_bits binary32 n)) ≡ Some x →
+    (is_nan x ≡ false) × (to_bits binary32 x ≡ n)
 pattern_again true n x q h e = nothing_is_some e
 pattern_again false n x q h e =
     let y : from_bits binary32 n ≡ x = cc in
-    let k : T (not (is-nan (from_bits binary32 n))) = subst (λ (v : Bool). T (not v)) (sym q) tt in
-    (sym (ap is-nan y) ∙ q, sym (ap (to_bits binary32) y) ∙ to_bits-of_bits binary32 n h k)
+    let k : T (not (is_nan (from_bits binary32 n))) = subst (λ (v : Bool). T (not v)) (sym q) tt in
+    (sym (ap is_nan y) ∙ q, sym (ap (to_bits binary32) y) ∙ to_bits-of_bits binary32 n h k)
 
 float_again : (bs : List ℕ) (o : Option ℕ) (x : Float) → of_four bs ≡ o → Bytes bs → of_pattern o ≡ Some x → float.writes x ≡ Some bs
 float_again bs None x p b e = nothing_is_some e
 float_again bs (Some n) x p b e =
     let f = four_again bs n b p in
-    let g = pattern_again (is-nan (from_bits binary32 n)) n x refl f.0 e in
+    let g = pattern_again (is_nan (from_bits binary32 n)) n x refl f.0 e in
     ap (λ (k : Bool). cond k None (Some (four (to_bits binary32 x)))) g.0 ∙ ap Some (ap four g.1 ∙ f.1)
 
-writes_number : (x : Float) → T (not (is-nan x)) → is_some (float.writes x) ≡ true
-writes_number x h = ap (λ (k : Bool). is_some (cond k None (Some (four (to_bits binary32 x))))) (is_false (is-nan x) h)
+writes_number : (x : Float) → T (not (is_nan x)) → is_some (float.writes x) ≡ true
+writes_number x h = ap (λ (k : Bool). is_some (cond k None (Some (four (to_bits binary32 x))))) (is_false (is_nan x) h)
 
 -- what is not a number is neither below nor above anything
-le_numbers : (x y : Float) → Ieee.le x y ≡ true → T (not (is-nan x)) × T (not (is-nan y))
-unfolding Ieee.le Ieee.lt Ieee.eq Ieee.isNan
+le_numbers : (x y : Float) → Ieee.le x y ≡ true → T (not (is_nan x)) × T (not (is_nan y))
+unfolding Ieee.le Ieee.lt Ieee.eq Ieee.is_nan
 le_numbers Ieee.nan Ieee.nan e = false_is_true e
 le_numbers Ieee.nan (Ieee.inf s) e = false_is_true e
 le_numbers Ieee.nan (Ieee.fin s m k) e = false_is_true e
@@ -74,7 +74,7 @@ float_laws = record {
   numbers = λ x y e. let h = le_numbers x y e in (writes_number x h.0, writes_number y h.1);
 }
 
-back_by : (b : Bool) (x : Float) → is-nan x ≡ b → T (Ieee.fits binary32 x) → (bs : List ℕ) → cond b None (Some (four (to_bits binary32 x))) ≡ Some bs → float.reads bs ≡ Some x
+back_by : (b : Bool) (x : Float) → is_nan x ≡ b → T (Ieee.fits binary32 x) → (bs : List ℕ) → cond b None (Some (four (to_bits binary32 x))) ≡ Some bs → float.reads bs ≡ Some x
 back_by true x q f bs e = nothing_is_some e
 back_by false x q f bs e =
     let n = to_bits binary32 x in
@@ -82,9 +82,9 @@ back_by false x q f bs e =
     let r : from_bits binary32 n ≡ x = of_bits-to_bits binary32 x f in
     ap float.reads y
     ∙ ap of_pattern (four_back n (to_bits-lt binary32 x f))
-    ∙ ap (λ (k : Bool). cond k None (Some (from_bits binary32 n))) (ap is-nan r ∙ q)
+    ∙ ap (λ (k : Bool). cond k None (Some (from_bits binary32 n))) (ap is_nan r ∙ q)
     ∙ ap Some r
 
 -- a float of 32 bits is read as itself from its bytes
 pub float_back : (x : Float) → T (Ieee.fits binary32 x) → ReadBack float x
-float_back x f = back_by (is-nan x) x refl f
+float_back x f = back_by (is_nan x) x refl f
