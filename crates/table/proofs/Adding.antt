@@ -76,24 +76,22 @@ passes_all true false false true e = (refl, refl, refl, refl)
 -- a row that is not refused leaves a table to its rules
 module _ (n : ℕ) (limits : List ℕ) (rows : List PlainRow) (r : PlainRow) (k : Kept n limits rows) (e : None ≡ add_refusal rows limits r) where
   pub place_free : n < 128
-  place_free = omega (arith, k.0, leb-false 128 (length rows) (passes_all _ _ _ _ e).1)
+  place_free = omega (arith, k.counted, leb-false 128 (length rows) (passes_all _ _ _ _ e).1)
 
   pub kept_added : Kept (n + 1) limits (added rows r)
   kept_added =
       let p = passes_all (keeps_rules r) (leb 128 (length rows)) (pair_taken r.process r.parameter rows) (has_room rows limits r) e in
-      let q = k.1.1.1 in (
-        simp length-append (omega (arith, k.0)),
-        (
-          omega arith,
-          (
-            omega (arith, place_free),
-            (
-              ap is_reset (get_or_append_left rows (r ∷ []) reset_row 0 (omega (arith, k.0, k.1.0))) ∙ q.0,
-              (ruled_added rows r q.1.0 p.0, (apart-added rows r q.1.1.0 p.2, (q.1.1.1.0, (q.1.1.1.1.0, (supplied_added rows limits r q.1.1.1.1.1.0 p.3, tt))))),
-            ),
-          ),
-        ),
-      )
+      record {
+        counted = simp length-append (omega (arith, k.counted));
+        some = omega arith;
+        few = omega (arith, place_free);
+        first = ap is_reset (get_or_append_left rows (r ∷ []) reset_row 0 (omega (arith, k.counted, k.some))) ∙ k.first;
+        lawful = ruled_added rows r k.lawful p.0;
+        distinct = apart-added rows r k.distinct p.2;
+        eight = k.eight;
+        capped = k.capped;
+        supplied = supplied_added rows limits r k.supplied p.3;
+      }
 
 pub none_told : {E X : Type 0} (o : Option E) (new old : X) → None ≡ o → (Ok tt ≡ answer o) × (new ≡ after o new old)
 none_told o new old e = (ap answer e, ap (λ (x : Option _). after x new old) e)

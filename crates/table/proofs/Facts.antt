@@ -104,10 +104,26 @@ table_ruled t = record {
 }
 
 -- the rules as a table's ghost fields have them, in their order
-abbrev pub Kept : ℕ → List ℕ → List PlainRow → Type 0
-Kept n limits rows =
-    (length rows ≡ n)
-    × ((1 ≤ n) × ((n ≤ 128) × ((is_reset (row_at rows 0) ≡ true) × ((all_keep_rules rows ≡ true) × ((apart rows ≡ true) × ((length limits ≡ 8) × (Capped limits × (Supplied rows limits × Unit {0}))))))))
+pub record Kept (n : ℕ) (limits : List ℕ) (rows : List PlainRow) : Type 0 where
+  pub counted : length rows ≡ n
+  pub some : 1 ≤ n
+  pub few : n ≤ 128
+  pub first : is_reset (row_at rows 0) ≡ true
+  pub lawful : all_keep_rules rows ≡ true
+  pub distinct : apart rows ≡ true
+  pub eight : length limits ≡ 8
+  pub capped : Capped limits
+  pub supplied : Supplied rows limits
 
 pub kept : (t : Table) → Kept t.count t.limits (rows_of t)
-kept t = (t.counted, (t.some, (t.few, (t.first, (t.lawful, (t.distinct, (t.eight, (t.capped, (t.supplied, tt)))))))))
+kept t = record {
+  counted = t.counted;
+  some = t.some;
+  few = t.few;
+  first = t.first;
+  lawful = t.lawful;
+  distinct = t.distinct;
+  eight = t.eight;
+  capped = t.capped;
+  supplied = t.supplied;
+}

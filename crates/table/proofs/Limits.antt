@@ -48,23 +48,15 @@ supplied_set rows limits f n p l h s g a b =
 pub kept_limited : (n : ℕ) (limits : List ℕ) (rows : List PlainRow) (f limit : ℕ) → Kept n limits rows → 1 ≤ f → f ≤ 8 → limit ≤ 1000000 → draw f rows (default_numbers rows) ≤ limit * 32000 →
     Kept n (set limits (f - 1) limit) rows
 kept_limited n limits rows f limit k p l h d =
-    let q = k.1.1.1.1.1.1 in
-    let in_list : f ≤ length limits = omega (arith, q.0) in (
-      k.0,
-      (
-        k.1.0,
-        (
-          k.1.1.0,
-          (
-            k.1.1.1.0,
-            (
-              k.1.1.1.1.0,
-              (
-                k.1.1.1.1.1.0,
-                (simp length-set q.0, (capped_set limits f limit p in_list h q.1.0, (supplied_set rows limits f limit p in_list d q.1.1.0, tt))),
-              ),
-            ),
-          ),
-        ),
-      ),
-    )
+    let in_list : f ≤ length limits = omega (arith, k.eight) in
+    record {
+      counted = k.counted;
+      some = k.some;
+      few = k.few;
+      first = k.first;
+      lawful = k.lawful;
+      distinct = k.distinct;
+      eight = simp length-set k.eight;
+      capped = capped_set limits f limit p in_list h k.capped;
+      supplied = supplied_set rows limits f limit p in_list d k.supplied;
+    }

@@ -20,5 +20,5 @@ none_found : (bs : List ℕ) (r : Bool) → Decides r ((k : ℕ) × (k < length 
 none_found bs true d = let h = d.0 refl in sym (some-zero bs h.0 h.1 (h.2 0))
 none_found bs false d = sym (no_zero_lem bs (λ k l e. both_ways false refl (d.1 (k, l, at_read bs (λ y. y ≡ 0) k 0 l (sym e) refl))))
 
-pub is_open : (bs : List ℕ) (r : Bool) → IsAnyAnswer (λ y t. Decides t (y ≡ 0)) bs r → length bs ≤ 24 → not r ≡ is_open_text bs
+pub is_open : (bs : List ℕ) (r : Bool) → IsAnyAnswer (λ y t. eqb y 0 ≡ t) bs r → length bs ≤ 24 → not r ≡ is_open_text bs
 is_open bs r s l = none_found bs r (contains_decides eqb Decides-eqb bs 0 r s) ∙ sym (ap (λ (t : Bool). t && no_zero bs) (le-leb (length bs) 24 l))

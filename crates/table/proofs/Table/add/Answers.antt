@@ -16,10 +16,20 @@ pub invariant_of-self : goal.invariant_of-self
 invariant_of-self c =
     let t = c.args.self.now in
     let e = c.in-None.ensures in
-    let free = place_free t.count t.limits (rows_of t) (plain c.args.row) (kept t) e in (
-      simp length-set t.slotted,
-      subst (Kept (t.count + 1) t.limits) (sym (rows_added t.slots t.count c.args.row (omega (arith, t.slotted)))) (kept_added t.count t.limits (rows_of t) (plain c.args.row) (kept t) e),
-    )
+    let free = place_free t.count t.limits (rows_of t) (plain c.args.row) (kept t) e in
+    let k = subst (Kept (t.count + 1) t.limits) (sym (rows_added t.slots t.count c.args.row (omega (arith, t.slotted)))) (kept_added t.count t.limits (rows_of t) (plain c.args.row) (kept t) e) in
+    record {
+      slotted = simp length-set t.slotted;
+      counted = k.counted;
+      some = k.some;
+      few = k.few;
+      first = k.first;
+      lawful = k.lawful;
+      distinct = k.distinct;
+      eight = k.eight;
+      capped = k.capped;
+      supplied = k.supplied;
+    }
 
 pub returns-in-None : goal.returns-in-None
 returns-in-None c =
