@@ -219,7 +219,7 @@ mod tests {
         assert!(rt; table.default_value(128).is_none());
         match table.default_value(0) {
             Some(value) => {
-                assert_eq!(rt; value.as_slice(), &[82]);
+                assert_eq!(rt; value.as_slice(), [82].as_slice());
                 Ok(())
             },
             None => Err(Fail::new("row 0 has a default")),

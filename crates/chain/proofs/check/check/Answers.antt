@@ -8,24 +8,24 @@ use Rattle.chain.specs.Reader.{checked, remaining, told}
 use Rattle.chain.proofs.Turns.{left_refusal, item_given, end-given, refusal_given}
 use Rattle.chain.proofs.check.check.Goals as goal
 
-pub returns-in_err-item : goal.returns-in_err-item
-returns-in_err-item c =
+pub returns-in_err-_item : goal.returns-in_err-_item
+returns-in_err-_item c =
     let p = err_from_is_err_and c.from_residual.result c.from_residual.ensures.1 in
-    let r = refusal_given (remaining c.loop-item.chain) c.in_err-item.field-0.0 c.in_err-item.ensures.item in
+    let r = refusal_given (remaining c.loop-item.chain) c.in_err-_item.field-0.0 c.in_err-_item.ensures.item in
     p.1 ∙ ap (λ (f : RackFault). Err f) p.2
     ∙ ap checked (sym r.1 ∙ c.loop-item.invariant ∙ ap (λ (w : Walked). w.refusal) c.new-chain.ensures)
 
 pub loop-item-smaller : goal.loop-item-smaller
 loop-item-smaller c =
-    let e = ap (λ (o : Option Item). told (Ok o)) (sym c.in-Some.is) ∙ c.in_ok--item.ensures.item in
-    let i = item_given (remaining c.loop-item.chain) (plain_item c.in-Some.-item) e in
-    omega (arith, ap length i, ap (λ (w : Walked). length w.items) c.in_ok--item.ensures.rest)
+    let e = ap (λ (o : Option Item). told (Ok o)) (sym c.in-Some.is) ∙ c.in_ok-_item.ensures.item in
+    let i = item_given (remaining c.loop-item.chain) (plain_item c.in-Some._item) e in
+    omega (arith, ap length i, ap (λ (w : Walked). length w.items) c.in_ok-_item.ensures.rest)
 
 pub loop-item-preserved : goal.loop-item-preserved
-loop-item-preserved c = ap (λ (w : Walked). w.refusal) c.in_ok--item.ensures.rest ∙ left-refusal (remaining c.loop-item.chain) ∙ c.loop-item.invariant
+loop-item-preserved c = ap (λ (w : Walked). w.refusal) c.in_ok-_item.ensures.rest ∙ left_refusal (remaining c.loop-item.chain) ∙ c.loop-item.invariant
 
 pub returns : goal.returns
 returns c =
-    let e = ap (λ (o : Option Item). told (Ok o)) (sym c.in_default.is) ∙ c.in_ok--item.ensures.item in
+    let e = ap (λ (o : Option Item). told (Ok o)) (sym c.in_default.is) ∙ c.in_ok-_item.ensures.item in
     let r = end-given (remaining c.loop-item.chain) e in
     ap checked (sym r.1 ∙ c.loop-item.invariant ∙ ap (λ (w : Walked). w.refusal) c.new-chain.ensures)
