@@ -1,8 +1,8 @@
 -- The laws of the ASCII framing: what it writes it reads, and what it reads it would write so.
-use Rattle.std.specs.Prelude.{◌≡◌, ℕ, suc, ◌+◌, ◌-◌, ◌*◌, ◌/◌, ◌%◌, ◌<◌, ◌≤◌, Bool, true, false, cond, ◌&&◌, List, [], ◌∷◌, ◌++◌, length, take, drop, Some, None, Ok, Err, Option, Result, ◌==◌, nat_lt, slice_index, slice_index_or, refl}
+use Rattle.std.specs.Prelude.{◌≡◌, ℕ, suc, ◌+◌, ◌-◌, ◌*◌, ◌/◌, ◌%◌, ◌<◌, ◌≤◌, true, List, [], ◌∷◌, ◌++◌, length, take, drop, Some, None, Ok, Err, Option, Result, ◌==◌, nat_lt, slice_index, slice_index_or, refl}
 use Rattle.std.proofs.Common.{sym, ◌∙◌, ap, subst, inl, inr, arith, length-append}
 use Rattle.std.proofs.lemmas.List.{take_at, get_or_at, get_or-append-add}
-use Rattle.std.proofs.lemmas.Bool.{eq-eqb, eqb-true, leb-true, le-leb, cond-true, cond-false, cases_Bool, and_parts, and_from, ltb-false, le-ltb}
+use Rattle.std.proofs.lemmas.Bool.{eq-eqb, eqb-true, cond-true, cond-false, cases_Bool, ltb-false, le-ltb}
 use Rattle.std.proofs.lemmas.Bool.Decides.{nat_tests}
 use Rattle.line.specs.declared.refusal.Flaw.{Flaw}
 use Rattle.line.specs.declared.refusal.Flaw.TheVariants.{NotAFrame}
@@ -10,7 +10,7 @@ use Rattle.line.specs.Messages.{Msg, data_msg, error_msg, Bytes, Framable, OfByt
 use Rattle.line.specs.Framings.{Laws}
 use Rattle.line.proofs.Laying.{last-two}
 use Rattle.ascii.specs.Hex.{digit, hexes, value, paired, spelled}
-use Rattle.ascii.specs.Frames.{counted, framed, encode, message, opened, delimited, inner, digits_opened, decode, ascii}
+use Rattle.ascii.specs.Frames.{counted, encode, message, opened, delimited, inner, digits_opened, decode, ascii}
 use Rattle.ascii.specs.Digits.{length-hexes}
 
 -- Digits and bytes

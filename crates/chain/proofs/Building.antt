@@ -1,11 +1,10 @@
 -- The answer to a read, as its parts are put behind one another.
-use Rattle.std.proofs.Common.{◌≡◌, ℕ, ◌+◌, ◌-◌, ◌<◌, ◌≤◌, min, Bool, true, false, cond, not, ltb, leb, List, [], ◌∷◌, ◌++◌, length, take, drop, Ok, Err, Result, sym, refl, ap, ◌∙◌, ⊎_elim, append_assoc, arith, length-append}
+use Rattle.std.proofs.Common.{◌≡◌, ℕ, ◌+◌, ◌-◌, ◌≤◌, min, true, false, not, ltb, leb, List, [], ◌∷◌, ◌++◌, length, take, drop, Ok, Err, sym, ap, ◌∙◌, ⊎_elim, append_assoc, arith, length-append}
 use Rattle.std.proofs.lemmas.List.{length-take-le, take_at}
-use Rattle.std.proofs.lemmas.Bool.{cases_Bool, cond-true, cond-false, not-true, not_from_true, not_from_false, ltb-true, ltb-false, le-leb, lt-leb}
+use Rattle.std.proofs.lemmas.Bool.{cases_Bool, cond-false, not-true, not_from_true, not_from_false, ltb-true, ltb-false, le-leb, lt-leb}
 use Rattle.table.specs.declared.Kind.{Kind}
 use Rattle.line.specs.Calls.{overlaid}
 use Rattle.chain.specs.declared.answer.ReadAnswer.{ReadAnswer}
-use Rattle.chain.specs.declared.fault.ChainFault.{ChainFault}
 use Rattle.chain.specs.declared.fault.ChainFault.TheVariants.{AnswerTooLong}
 use Rattle.chain.specs.declared.item.Query.{Query}
 use Rattle.chain.specs.Items.{group_byte}

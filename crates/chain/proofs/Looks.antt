@@ -1,14 +1,12 @@
 -- Items on the row that is found for them.
-use Rattle.std.proofs.Common.{◌≡◌, ℕ, ◌+◌, ◌<◌, ◌≤◌, Bool, true, false, cond, ltb, leb, List, [], ◌∷◌, length, Some, None, Option, Result, sym, refl, ap, ◌∙◌, ⊎_elim, arith}
+use Rattle.std.proofs.Common.{◌≡◌, ℕ, ◌+◌, ◌<◌, Bool, true, false, cond, ltb, leb, List, ◌∷◌, length, Some, None, Option, sym, ap, ◌∙◌, ⊎_elim, arith}
 use Rattle.std.proofs.lemmas.Bool.{cases_Bool, cond-true, cond-false, lt-leb}
 use Rattle.table.specs.Rows.{PlainRow}
 use Rattle.table.specs.Draws.{row_at}
 use Rattle.table.specs.Tables.{row_in, place, has_process}
-use Rattle.chain.specs.declared.fault.RackFault.{RackFault}
 use Rattle.chain.specs.declared.fault.RackFault.TheVariants.{NoProcess, NoParameter}
 use Rattle.chain.specs.Faults.{top_bit}
-use Rattle.chain.specs.Items.{PlainItem}
-use Rattle.chain.specs.Walks.{Look, unfound, Verdict}
+use Rattle.chain.specs.Walks.{unfound}
 use Rattle.chain.specs.Chains.{process_of, parameter_of, on_found, write_of, write_at, read_on, read_at}
 use Rattle.chain.specs.Reader.{look_result, verdict_result}
 

@@ -1,5 +1,5 @@
 -- One step through a chain.
-use Rattle.std.proofs.Common.{◌≡◌, ℕ, zero, suc, ◌+◌, ◌-◌, ◌<◌, ◌≤◌, min, Bool, true, false, cond, List, [], ◌∷◌, length, take, drop, Some, None, Ok, Err, Option, Result, sym, refl, ap, ◌∙◌, add-zero, arith, length-drop}
+use Rattle.std.proofs.Common.{◌≡◌, ℕ, zero, suc, ◌+◌, ◌-◌, ◌≤◌, min, Bool, true, List, [], ◌∷◌, length, take, drop, Some, Ok, Err, Result, sym, refl, ap, ◌∙◌, add-zero, arith, length-drop}
 use Rattle.std.proofs.lemmas.List.{take_all}
 use Rattle.std.proofs.lemmas.Bool.{cond-true}
 use Rattle.table.specs.Rows.{PlainRow}
@@ -9,7 +9,7 @@ use Rattle.chain.specs.declared.fault.RackFault.TheVariants.{NoProcess}
 use Rattle.chain.specs.declared.reader.Ahead.{Ahead}
 use Rattle.chain.specs.declared.reader.Ahead.TheVariants.{Group, InGroup}
 use Rattle.chain.specs.Items.{PlainItem}
-use Rattle.chain.specs.Walks.{Walked, Verdict, barred, spoiled, taken, Look, unfound, on_row, refused_by, next, onward, walk}
+use Rattle.chain.specs.Walks.{Walked, barred, spoiled, taken, Look, unfound, on_row, refused_by, next, onward, walk}
 use Rattle.chain.specs.Chains.{opens_by, look_by, walk_by}
 use Rattle.chain.specs.Reader.{look_result, given, left, chain_of}
 

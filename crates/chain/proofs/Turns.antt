@@ -1,5 +1,5 @@
 -- One turn of a loop over a chain.
-use Rattle.std.proofs.Common.{◌≡◌, ℕ, ◌<◌, List, [], ◌∷◌, length, Some, None, Ok, Err, Option, sym, refl, ap, ◌∙◌, arith}
+use Rattle.std.proofs.Common.{◌≡◌, ℕ, List, [], ◌∷◌, Some, None, Ok, Err, Option, sym, refl, ap, arith}
 use Rattle.chain.specs.declared.fault.RackFault.{RackFault}
 use Rattle.chain.specs.Items.{PlainItem}
 use Rattle.chain.specs.Walks.{Walked}

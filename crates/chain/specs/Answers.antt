@@ -1,5 +1,5 @@
 -- The answer to a read, and the check of its length.
-use Rattle.std.specs.Prelude.{ℕ, cond, List, [], ◌∷◌, ◌++◌, length, Some, None, Ok, Err, Option, Result, nat_lt}
+use Rattle.std.specs.Prelude.{ℕ, cond, List, [], ◌∷◌, ◌++◌, length, Some, Ok, Err, Option, Result, nat_lt}
 use Rattle.table.specs.declared.Kind.{Kind}
 use Rattle.table.specs.Rows.{PlainRow}
 use Rattle.table.specs.Draws.{row_at}

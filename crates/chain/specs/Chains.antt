@@ -1,5 +1,5 @@
 -- The chains of writes and reads on the rows of a table.
-use Rattle.std.specs.Prelude.{ℕ, ◌+◌, Bool, true, false, cond, not, ◌&&◌, List, [], ◌∷◌, Some, None, Ok, Err, Option, Result, ◌==◌, bit_and, nat_le}
+use Rattle.std.specs.Prelude.{ℕ, ◌+◌, Bool, true, cond, not, ◌&&◌, List, [], ◌∷◌, Some, None, Ok, Err, Option, Result, ◌==◌, bit_and, nat_le}
 use Rattle.table.specs.Rows.{PlainRow}
 use Rattle.table.specs.Draws.{row_at}
 use Rattle.table.specs.Tables.{place, has_process}
@@ -11,7 +11,7 @@ use Rattle.chain.specs.declared.item.Query.{Query}
 use Rattle.chain.specs.declared.reader.Ahead.{Ahead}
 use Rattle.chain.specs.declared.reader.Ahead.TheVariants.{Group}
 use Rattle.chain.specs.Faults.{missing, top_bit}
-use Rattle.chain.specs.Items.{PlainItem, write, read}
+use Rattle.chain.specs.Items.{write, read}
 use Rattle.chain.specs.Values.{type_bits, value_at, length_at}
 use Rattle.chain.specs.Walks.{Walked, Verdict, barred, spoiled, taken, Look, unfound, on_row, walk}
 

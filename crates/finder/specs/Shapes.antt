@@ -1,5 +1,5 @@
 -- What received bytes can look like from a place on. Bytes are counted from there, the first included.
-use Rattle.std.specs.Prelude.{◌≡◌, ℕ, ◌+◌, ◌<◌, ◌≤◌, List, [], ◌∷◌, ◌++◌, length, ◌≢◌}
+use Rattle.std.specs.Prelude.{ℕ, ◌+◌, ◌<◌, ◌≤◌, List, [], ◌∷◌, ◌++◌, length, ◌≢◌}
 
 -- None of these bytes is x.
 abbrev pub Without : ℕ → List ℕ → Type 0

@@ -1,5 +1,5 @@
 -- What reading and writing a frame answer and leave in the lent buffer, by a framing's rule.
-use Rattle.std.specs.Prelude.{ℕ, ◌+◌, Bool, true, false, cond, ◌||◌, List, [], ◌++◌, length, take, drop, Ok, Err, Result, ◌==◌, nat_lt}
+use Rattle.std.specs.Prelude.{ℕ, ◌+◌, Bool, false, cond, ◌||◌, List, [], ◌++◌, length, take, drop, Ok, Err, Result, ◌==◌, nat_lt}
 use Rattle.line.specs.declared.message.Message.{Message}
 use Rattle.line.specs.declared.message.Message.TheVariants as message
 use Rattle.line.specs.declared.message.Unpacked.{Unpacked}

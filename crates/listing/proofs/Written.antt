@@ -1,5 +1,5 @@
 -- A frame that either framing writes has the shape that is looked for.
-use Rattle.std.proofs.Common.{◌≡◌, ℕ, ◌+◌, ◌/◌, ◌%◌, ◌<◌, ◌≤◌, true, false, cond, eqb, List, [], ◌∷◌, ◌++◌, length, sym, refl, ap, ◌∙◌, subst, inl, inr, append_assoc, arith, length-append}
+use Rattle.std.proofs.Common.{◌≡◌, ℕ, ◌/◌, ◌%◌, ◌<◌, ◌≤◌, cond, eqb, List, [], ◌∷◌, ◌++◌, length, sym, ap, ◌∙◌, subst, inl, inr, append_assoc, arith, length-append}
 use Rattle.std.proofs.lemmas.Bool.{cases_Bool, cond-true, cond-false, eqb-true, eqb-false}
 use Rattle.std.proofs.lemmas.Bool.Decides.{nat_tests}
 use Rattle.line.specs.Messages.{Msg, data_msg, error_msg, Framable, Bytes, OfBytes}
@@ -8,7 +8,7 @@ use Rattle.ascii.specs.Frames.{counted, encode as asciiFrame}
 use Rattle.ascii.specs.Digits.{length-hexes}
 use Rattle.binary.specs.declared.Mark.{Mark}
 use Rattle.binary.specs.Doubling.{doubled}
-use Rattle.binary.specs.Frames.{binary, content, encode as binaryFrame}
+use Rattle.binary.specs.Frames.{content, encode as binaryFrame}
 use Rattle.binary.specs.Laws.{binary_laws}
 use Rattle.finder.specs.Shapes.{Without, Doubled, no_bytes, plain, pair, Whole, ascii_frame, binary_frame}
 use Rattle.finder.proofs.Firsts.{whole_found}

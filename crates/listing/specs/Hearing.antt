@@ -1,5 +1,5 @@
 -- What was heard of one frame, and how many frames of each sort were.
-use Rattle.std.specs.Prelude.{ℕ, ◌+◌, List, [], ◌∷◌, Some, None, Option}
+use Rattle.std.specs.Prelude.{ℕ, ◌+◌, Some, None, Option}
 use Rattle.std.specs.Option.{option_map}
 use Rattle.line.specs.Calls.{placed}
 use Rattle.line.specs.Messages.{Msg, data_msg, error_msg}

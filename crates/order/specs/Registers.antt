@@ -1,5 +1,5 @@
 -- Calls on registers: reads, writes and copies, each under the tag of the desk that asks.
-use Rattle.std.specs.Prelude.{◌≡◌, ℕ, Bool, false, ◌||◌, List, set, Some, None, Option, ◌==◌, slice_set}
+use Rattle.std.specs.Prelude.{◌≡◌, ℕ, Bool, false, ◌||◌, List, Some, None, Option, ◌==◌, slice_set}
 use Rattle.std.specs.List.{slice_get}
 use Rattle.order.specs.Calls.{Calls}
 use Rattle.order.specs.declared.registers.Ask.{Ask}

@@ -1,4 +1,4 @@
-use Rattle.std.proofs.Common.{◌≡◌, ℕ, ◌/◌, List, length, take, Some, Option, sym, ap, ◌∙◌, arith}
+use Rattle.std.proofs.Common.{◌≡◌, ℕ, ◌/◌, length, take, Some, sym, ap, ◌∙◌, arith}
 use Rattle.ascii.specs.Hex.{spelled}
 use Rattle.ascii.proofs.Spelling.{behind_nothing, spelled_odd, no_high, no_low, one_more, all_spelled}
 use Rattle.ascii.proofs.get_hex.Goals as goal

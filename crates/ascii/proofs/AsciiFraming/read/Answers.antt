@@ -1,4 +1,4 @@
-use Rattle.std.proofs.Common.{◌≡◌, ℕ, ◌-◌, ◌*◌, ◌≤◌, length, get_or, take, drop, Ok, Err, sym, ap, ◌∙◌, arith, length-drop, length-take}
+use Rattle.std.proofs.Common.{◌≡◌, ℕ, ◌-◌, ◌≤◌, length, get_or, take, drop, Ok, Err, sym, ap, ◌∙◌, arith, length-drop, length-take}
 use Rattle.line.specs.declared.message.Unpacked.TheVariants as unpacked
 use Rattle.line.specs.declared.refusal.Flaw.TheVariants.{NotAFrame}
 use Rattle.line.proofs.Answering.{read_by, read_start}

@@ -1,8 +1,8 @@
-use Rattle.std.proofs.Common.{length, Some, None, Ok, Err, Option, sym, ap, ◌∙◌, arith}
+use Rattle.std.proofs.Common.{length, Ok, Err, Option, sym, ap, ◌∙◌, arith}
 use Rattle.std.proofs.lemmas.Result.{err_from_is_err_and}
 use Rattle.chain.specs.declared.fault.RackFault.{RackFault}
 use Rattle.chain.specs.declared.item.Item.{Item}
-use Rattle.chain.specs.Items.{PlainItem, plain_item}
+use Rattle.chain.specs.Items.{plain_item}
 use Rattle.chain.specs.Walks.{Walked}
 use Rattle.chain.specs.Reader.{checked, remaining, told}
 use Rattle.chain.proofs.Turns.{left_refusal, item_given, end-given, refusal_given}

@@ -1,4 +1,4 @@
-use Rattle.std.proofs.Common.{◌≡◌, ℕ, ◌+◌, List, ◌++◌, string_bytes, Option, sym, ap, ◌∙◌, append-nil}
+use Rattle.std.proofs.Common.{ℕ, ◌+◌, List, ◌++◌, string_bytes, Option, sym, ap, ◌∙◌, append-nil}
 use Rattle.line.specs.Messages.{Msg}
 use Rattle.listing.specs.Words.{entry_line}
 use Rattle.listing.specs.Hearing.{message_of}

@@ -1,4 +1,4 @@
-use Rattle.std.proofs.Common.{ℕ, List, [], ◌∷◌, length, ap, ◌∙◌, arith, length-append}
+use Rattle.std.proofs.Common.{[], ◌∷◌, length, ap, ◌∙◌, arith, length-append}
 use Rattle.table.specs.declared.Kind.{Kind}
 use Rattle.chain.specs.Values.{in_chain}
 use Rattle.chain.proofs.answer.puts.extra_bytes.Goals as goal

@@ -1,4 +1,4 @@
-use Rattle.std.proofs.Common.{ℕ, ◌+◌, ◌≤◌, List, ◌++◌, take, set, replicate, sym, refl, ◌∙◌, subst, append-nil, arith, lit≤}
+use Rattle.std.proofs.Common.{ℕ, ◌+◌, List, ◌++◌, take, set, replicate, sym, refl, ◌∙◌, subst, append-nil, arith, lit≤}
 use Rattle.std.proofs.lemmas.List.{at_drop_all}
 use Rattle.store.specs.declared.changes.change.Change.{Change}
 use Rattle.store.specs.ChangeList.{newest}
