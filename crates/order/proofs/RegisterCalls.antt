@@ -3,7 +3,7 @@ use Rattle.std.proofs.Common.{◌≡◌, ℕ, zero, suc, true, false, eqb, List,
 use Rattle.std.proofs.lemmas.Bool.{eq-eqb, eqb-true, or_left, or_right}
 use Rattle.std.specs.List.{slice_get}
 use Rattle.order.specs.Calls.{Premises}
-use Rattle.order.specs.Registers.{read_of, write_of_lem, stored, answered, left, written, concerned, register_calls, Retagged, SameAnswer}
+use Rattle.order.specs.Registers.{read_of, write_of, stored, answered, left, written, concerned, register_calls, Retagged, SameAnswer}
 use Rattle.order.specs.declared.registers.Ask.{Ask}
 use Rattle.order.specs.declared.registers.Ask.TheVariants.{Read, Write, Copy}
 
@@ -54,7 +54,7 @@ Agreed a s s' = (k : ℕ) → concerned a k ≡ true → slice_get s k ≡ slice
 
 answered-by : (a : Ask) (s s' : List ℕ) → Agreed a s s' → answered a s ≡ answered a s'
 answered-by (Read r) s s' h = ap read_of (h r (here r))
-answered-by (Write r v) s s' h = ap write_of_lem (h r (here r))
+answered-by (Write r v) s s' h = ap write_of (h r (here r))
 answered-by (Copy q r) s s' h =
     let e = h q (or_left (eqb q q) (eqb q r) (here q)) in let f = h r (or_right (eqb r q) (eqb r r) (here r)) in cc
 

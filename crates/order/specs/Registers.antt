@@ -9,7 +9,7 @@ use Rattle.order.specs.declared.registers.Answer.{Answer}
 use Rattle.order.specs.declared.registers.Answer.TheVariants.{Value, Done, Missing}
 use Rattle.order.specs.declared.registers.Outcome.{Outcome}
 
--- The registers are a list of values. `nth s r` is what register r holds, or none where it is missing.
+-- The registers are a list of values. `slice_get s r` is what register r holds, or none where it is missing.
 
 -- the answer to a read, by what the register holds
 abbrev pub read_of : Option ℕ → Answer
@@ -17,13 +17,13 @@ read_of (Some v) = Value v
 read_of None = Missing
 
 -- the answer to a write, by what the register held
-abbrev pub write_of_lem : Option ℕ → Answer
-write_of_lem (Some v) = Done
-write_of_lem None = Missing
+abbrev pub write_of : Option ℕ → Answer
+write_of (Some v) = Done
+write_of None = Missing
 
 -- the answer to a copy, by what the two registers held
 abbrev pub copy_of : Option ℕ → Option ℕ → Answer
-copy_of (Some v) to = write_of_lem to
+copy_of (Some v) to = write_of to
 copy_of None to = Missing
 
 -- register r with what another one holds
@@ -34,7 +34,7 @@ stored None s r = s
 -- the answer to what is asked (a register that is set where it is missing changes nothing)
 abbrev pub answered : Ask → List ℕ → Answer
 answered (Read r) s = read_of (slice_get s r)
-answered (Write r v) s = write_of_lem (slice_get s r)
+answered (Write r v) s = write_of (slice_get s r)
 answered (Copy q r) s = copy_of (slice_get s q) (slice_get s r)
 
 -- the registers after it
