@@ -22,11 +22,11 @@ returns g c =
     let s = setup self.node.number self.table in
     let R = g.F.Framing.rule c.args.framing.now in
     let held = g.S.Store.held self.store in
-    let f = c.answer_frame_lem.ensures in
+    let f = c.answer_frame.ensures in
     record {
       answered = called R s c.args.frame.now c.args.buffer.now held (table_ruled self.table) (g.met.S.Store.sound self.store).rows c.if-buffer-lt-MAX_FRAME.false
-          c.answer_frame_lem.result c.answer_frame_lem.new.buffer (g.S.Store.held c.answer_frame_lem.new.self.store) f.len f.after f.fault f.held;
-      after = stays R s c.args.frame.now c.args.buffer.now held c.answer_frame_lem.result c.answer_frame_lem.new.buffer f.len f.after;
+          c.answer_frame.result c.answer_frame.new.buffer (g.S.Store.held c.answer_frame.new.self.store) f.len f.after f.fault f.held;
+      after = stays R s c.args.frame.now c.args.buffer.now held c.answer_frame.result c.answer_frame.new.buffer f.len f.after;
       same = f.same;
       promises = promises s (table_ruled self.table);
     }
