@@ -7,7 +7,6 @@ use Rattle.std.specs.Result.{result_ok}
 use Rattle.line.specs.declared.refusal.Flaw.{Flaw}
 use Rattle.line.specs.Messages.{Msg, error_msg, Bytes}
 use Rattle.table.specs.Tables.{Ruled}
-use Rattle.order.specs.Calls.{outcomes}
 use Rattle.order.specs.Reordering.{Rearranged, SameRun}
 use Rattle.order.proofs.Reordering.{reordering}
 use Rattle.order.proofs.Runs.{runs}

@@ -1,5 +1,5 @@
 -- One answering call, by what it read, wrote and kept.
-use Rattle.std.proofs.Common.{◌≡◌, ℕ, ◌<◌, ◌≤◌, ltb, List, [], length, take, drop, is_some, Some, None, Ok, Err, Option, sym, refl, ap, ◌∙◌}
+use Rattle.std.proofs.Common.{◌≡◌, ℕ, ◌<◌, ◌≤◌, ltb, List, length, take, drop, is_some, Some, None, Ok, Err, Option, sym, refl, ap, ◌∙◌}
 use Rattle.std.proofs.lemmas.List.{take_at}
 use Rattle.std.proofs.lemmas.Bool.{cond-true, cond-false, lt-ltb, le-ltb}
 use Rattle.line.specs.Calls.{starting_with}
@@ -10,10 +10,10 @@ use Rattle.chain.specs.declared.fault.RackFault.{RackFault}
 use Rattle.promises.specs.declared.outcome.AnswerRefusal.{AnswerRefusal}
 use Rattle.promises.specs.declared.outcome.AnswerRefusal.TheVariants.{ShortBuffer}
 use Rattle.promises.specs.declared.outcome.Answered.{Answered}
-use Rattle.promises.specs.Outcomes.{Outcome, outcome_of}
+use Rattle.promises.specs.Outcomes.{outcome_of}
 use Rattle.promises.specs.Replies.{Reply, kept_items, reply_to, values_after}
 use Rattle.promises.specs.Requests.{Setup, Request, short_buffer, frame_request, request_of}
-use Rattle.promises.specs.Runs.{CallAnswered, answer_bytes, given, outcome}
+use Rattle.promises.specs.Runs.{CallAnswered, answer_bytes, given}
 use Rattle.promises.specs.Stored.{kept_in_store, values_in}
 use Rattle.promises.specs.Wires.{Call, call_over, wire_of}
 use Rattle.promises.proofs.Refusing.{frame_unrefused}

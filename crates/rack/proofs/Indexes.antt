@@ -1,26 +1,24 @@
 -- The indexes of faults fit a byte, since a message has at most 64 data bytes.
-use Rattle.std.proofs.Common.{◌≡◌, ℕ, ◌+◌, ◌<◌, ◌≤◌, Bool, true, false, cond, ◌&&◌, eqb, List, [], ◌∷◌, length, get_or, IfSome, Some, None, Option, sym, refl, ap, ◌∙◌, subst, ⊎_elim, arith}
+use Rattle.std.proofs.Common.{◌≡◌, ℕ, ◌+◌, ◌<◌, ◌≤◌, Bool, true, false, ◌&&◌, eqb, List, [], ◌∷◌, length, get_or, IfSome, Some, None, Option, sym, refl, subst, ⊎_elim, arith}
 use Rattle.std.proofs.lemmas.Bool.{cases_Bool, cond-true, cond-false}
 use Rattle.table.specs.Rows.{PlainRow}
 use Rattle.table.specs.Draws.{row_at}
 use Rattle.order.specs.Last.{else}
-use Rattle.chain.specs.declared.access.Access.{Access}
 use Rattle.chain.specs.declared.access.Access.TheVariants.{Write, Read}
 use Rattle.chain.specs.declared.fault.RackFault.{RackFault}
-use Rattle.chain.specs.declared.fault.RackFault.TheVariants.{Secured, OverLimit}
+use Rattle.chain.specs.declared.fault.RackFault.TheVariants.{Secured}
 use Rattle.chain.specs.Faults.{rack_place, missing}
 use Rattle.chain.specs.Items.{PlainItem, row_of, place_of}
 use Rattle.chain.specs.Walks.{Found, Walked}
 use Rattle.chain.specs.Chains.{chain_by}
 use Rattle.chain.specs.Locks.{first_secured, lock_of}
-use Rattle.chain.specs.Answers.{Values, Answer, read_answer}
+use Rattle.chain.specs.Answers.{Values, read_answer}
 use Rattle.chain.specs.Reader.{chain_of}
 use Rattle.chain_laws.specs.Places.{Ascend, found_places, item_places, Placed}
 use Rattle.chain_laws.proofs.Answers.{places_lie_inside}
 use Rattle.promises.specs.Requests.{Setup}
-use Rattle.promises.specs.Replies.{feeds, feed_within, feed_refusal, first_on, over_limit, overdrawn, unlocked, write_refusal}
+use Rattle.promises.specs.Replies.{feeds, feed_refusal, first_on, over_limit, overdrawn, unlocked, write_refusal}
 use Rattle.promises.proofs.Keeping.{first_some}
-use Rattle.promises.proofs.Options.{some-none}
 
 -- what refuses has an index below 256
 abbrev pub Small : Option RackFault → Type 0

@@ -1,5 +1,5 @@
 -- What each command is answered with.
-use Rattle.std.proofs.Common.{◌≡◌, ℕ, ◌+◌, ◌<◌, ◌≤◌, Bool, true, false, cond, ◌||◌, eqb, List, [], ◌∷◌, length, take, Some, None, Ok, Err, Option, Result, sym, refl, ap, ◌∙◌, subst, ⊎_elim, add-one, arith}
+use Rattle.std.proofs.Common.{◌≡◌, ℕ, ◌<◌, Bool, true, false, cond, ◌||◌, eqb, List, [], ◌∷◌, Some, None, Ok, Err, Option, Result, sym, refl, ap, ◌∙◌, subst, ⊎_elim, add-one, arith}
 use Rattle.std.proofs.lemmas.Bool.{cases_Bool, cond-true, cond-false}
 use Rattle.std.specs.Result.{result_err}
 use Rattle.line.specs.declared.fault.LineFault.TheVariants.{OtherNode}
@@ -16,7 +16,7 @@ use Rattle.chain.specs.Faults.{chain_place}
 use Rattle.chain.specs.Answers.{Answer, Values}
 use Rattle.chain.specs.Reader.{checked}
 use Rattle.promises.specs.Requests.{Request, short_buffer, unreadable, error_message, other_node, unknown_command, write, read, command_request, data_request, message_request}
-use Rattle.promises.specs.Replies.{Reply, kept_items, read_msg, read_reply, reply_to, write_msg, write_reply}
+use Rattle.promises.specs.Replies.{kept_items, read_msg, read_reply, reply_to, write_msg, write_reply}
 use Rattle.promises.proofs.Options.{cond_prop}
 use Rattle.rack.specs.Serving.{command_at, command_for, refused_reply, request_by, setup}
 use Rattle.readout.specs.Told.{unless_refused, result_of}

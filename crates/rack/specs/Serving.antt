@@ -1,10 +1,10 @@
 -- What a message is answered with, as the code tells it.
-use Rattle.std.specs.Prelude.{ℕ, true, false, cond, ◌||◌, List, [], ◌∷◌, length, Some, None, Ok, Err, Option, Result, ◌==◌}
+use Rattle.std.specs.Prelude.{ℕ, true, false, cond, ◌||◌, List, [], ◌∷◌, length, Some, None, Ok, Err, Result, ◌==◌}
 use Rattle.std.specs.Option.{option_map}
 use Rattle.line.specs.declared.fault.LineFault.{LineFault}
 use Rattle.line.specs.declared.fault.LineFault.TheVariants.{OtherNode}
 use Rattle.line.specs.Calls.{placed}
-use Rattle.line.specs.Messages.{Msg, error_msg}
+use Rattle.line.specs.Messages.{error_msg}
 use Rattle.table.specs.declared.Table.{Table}
 use Rattle.table.specs.Rows.{PlainRow}
 use Rattle.table.specs.Held.{rows_of, limits_of}
@@ -13,7 +13,6 @@ use Rattle.chain.specs.declared.access.Command.{Command}
 use Rattle.chain.specs.declared.access.Command.TheVariants as command
 use Rattle.chain.specs.declared.fault.ChainFault.{ChainFault}
 use Rattle.chain.specs.declared.fault.ChainFault.TheVariants.{Line, UnknownCommand, MissingByte, TopBit, ExtraByte, AnswerTooLong}
-use Rattle.chain.specs.declared.fault.RackFault.{RackFault}
 use Rattle.chain.specs.declared.fault.RackFault.TheVariants.{Chain}
 use Rattle.chain.specs.Access.{command_of}
 use Rattle.chain.specs.Reader.{chain_of}

@@ -1,9 +1,9 @@
-use Rattle.std.proofs.Common.{◌≡◌, List, sym, ap, ◌∙◌}
+use Rattle.std.proofs.Common.{List, sym, ap, ◌∙◌}
 use Rattle.chain.specs.Items.{PlainItem}
 use Rattle.promises.specs.Requests.{Request}
 use Rattle.promises.specs.Replies.{kept_items, reply_to}
 use Rattle.promises.specs.Stored.{kept_in_store, values_in}
-use Rattle.rack.specs.Serving.{request_by, setup}
+use Rattle.rack.specs.Serving.{setup}
 use Rattle.rack.proofs.Served.{commanded, refused, reply_any, kept_any}
 use Rattle.rack.proofs.serving.serve.Goals as goal
 

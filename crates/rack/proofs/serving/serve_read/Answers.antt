@@ -1,8 +1,7 @@
-use Rattle.std.proofs.Common.{◌≡◌, ℕ, List, length, Some, None, Ok, Option, sym, ap, ◌∙◌, subst}
+use Rattle.std.proofs.Common.{◌≡◌, ℕ, List, length, Some, None, ap, ◌∙◌, subst}
 use Rattle.std.proofs.lemmas.List.{take_at}
 use Rattle.line.specs.Messages.{data_msg}
 use Rattle.table.specs.Held.{rows_of}
-use Rattle.chain.specs.declared.fault.RackFault.{RackFault}
 use Rattle.promises.specs.Stored.{values_in}
 use Rattle.rack.proofs.Indexes.{Small, small_read}
 use Rattle.rack.proofs.Served.{read_answered, read_refusal, read_refused}

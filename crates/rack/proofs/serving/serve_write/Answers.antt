@@ -1,8 +1,5 @@
-use Rattle.std.proofs.Common.{◌≡◌, true, length, sym, subst}
+use Rattle.std.proofs.Common.{length, sym, subst}
 use Rattle.table.specs.Held.{rows_of}
-use Rattle.chain.specs.declared.access.Access.TheVariants.{Write}
-use Rattle.chain.specs.Reader.{chain_of}
-use Rattle.promises.specs.Replies.{write_refusal}
 use Rattle.promises.specs.Stored.{values_in}
 use Rattle.rack.specs.Serving.{setup}
 use Rattle.rack.proofs.Indexes.{Small, small_write}

@@ -1,4 +1,4 @@
-use Rattle.std.proofs.Common.{◌≡◌, ℕ, List, length, is_some, Result, sym, refl, ap, ◌∙◌, subst}
+use Rattle.std.proofs.Common.{length, is_some, Result, sym, refl, ap, ◌∙◌, subst}
 use Rattle.std.specs.Result.{result_map_both}
 use Rattle.line.specs.declared.refusal.Flaw.{Flaw}
 use Rattle.line.specs.Calls.{starting_with}
