@@ -1,7 +1,7 @@
 #!/usr/bin/env python3
 """Compares `plug` with a second model of the listing, written from docs/PROTOCOL.md alone.
 
-    tools/compare_plug.py target/bin/plug [INPUTS]
+    tools/compare_plug.py crates/plug/out/plug [INPUTS]
 
 Each input is random traffic: frames of both framings, damaged ones, noise, and often a cut end. It is outside the
 gate: the listing's text is proved there, and this shows that the definitions mean what the page says.

@@ -1,7 +1,7 @@
 -- The answer to a read is bytes.
 use Rattle.std.proofs.Common.{◌≡◌, ℕ, ◌<◌, true, ltb, List, [], ◌∷◌, ◌++◌, length, Some, Option, arith}
 use Rattle.std.proofs.lemmas.Bool.{cond_both}
-use Rattle.std.specs.List.{AllByRecursion as All}
+use Rattle.std.specs.List.{AllByRecursion}
 use Rattle.value.specs.Values.{Bytes}
 use Rattle.table.specs.declared.Kind.{Kind}
 use Rattle.table.specs.declared.Kind.TheVariants.{Char, Integer, Long, Float, Text, OpenText}
@@ -40,7 +40,7 @@ module _ (rows : List PlainRow) (limits : List ℕ) (t : Ruled rows limits) (h :
       append_bytes (repeated q) (in_chain (row_at rows q.row).kind (h q.row)) m
       (in_chain_bytes (row_at rows q.row).kind (row_at rows q.row).text (h q.row) (kind_ruled_lem (row_at rows q.row) (row_ruled rows t.lawful q.row)) (b q.row l))
 
-  answer_bytes_lem : (items : List PlainItem) (bytes : List ℕ) (o : Option RackFault) → All (λ x. row_of x < length rows) items → All (λ x. Bytes (carried x)) items → Bytes bytes →
+  answer_bytes_lem : (items : List PlainItem) (bytes : List ℕ) (o : Option RackFault) → AllByRecursion (λ x. row_of x < length rows) items → AllByRecursion (λ x. Bytes (carried x)) items → Bytes bytes →
       Bytes (answer_from rows h bytes items o).bytes
   answer_bytes_lem [] bytes o l m k = k
   answer_bytes_lem (write r i v ∷ items) bytes o l m k = answer_bytes_lem items bytes o l.1 m.1 k

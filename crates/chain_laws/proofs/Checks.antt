@@ -1,7 +1,7 @@
 -- Some of the checks in plain words.
 use Rattle.std.proofs.Common.{◌≡◌, ℕ, suc, ◌+◌, ◌≤◌, Bool, true, false, cond, not, ◌&&◌, eqb, List, [], ◌∷◌, ◌++◌, length, Some, Ok, Err, Option, sym, refl, ap, ◌∙◌, ⊎_elim, arith}
 use Rattle.std.proofs.lemmas.Bool.{cases_Bool, cond-true, cond-false, both_ways, and_parts, and_from, and_right, or_left, or_right, eq-eqb, le-ltb}
-use Rattle.std.specs.List.{AllByRecursion as All}
+use Rattle.std.specs.List.{AllByRecursion}
 use Rattle.table.specs.Rows.{PlainRow, has_pair, reset_row}
 use Rattle.table.specs.Draws.{row_at}
 use Rattle.table.specs.Tables.{place_from, place, has_process, Ruled}
@@ -67,7 +67,7 @@ module _ (unlocked : Bool) (row : PlainRow) (r i q : ℕ) (bs : List ℕ) (t : t
       cond-true (not unlocked && row.secured) (barred (Secured i)) (value_taken r i (value_at row.kind (i + 1) bs)) s
 
 -- the first secured row behind rows that are not
-first_behind : (rows : List PlainRow) (before after : List Found) (f : Found) → All (λ x. (row_at rows x.row).secured ≡ false) before → f.reached ≡ true →
+first_behind : (rows : List PlainRow) (before after : List Found) (f : Found) → AllByRecursion (λ x. (row_at rows x.row).secured ≡ false) before → f.reached ≡ true →
     (row_at rows f.row).secured ≡ true → first_secured rows (before ++ f ∷ after) ≡ Some (Secured f.place)
 first_behind rows [] after f a r s =
     cond-true (f.reached && (row_at rows f.row).secured) (Some (Secured f.place)) (first_secured rows after) (and_from f.reached (row_at rows f.row).secured r s)

@@ -1,7 +1,7 @@
 -- Of bytes, the items of a chain carry bytes.
 use Rattle.std.proofs.Common.{ℕ, ◌<◌, false, cond, leb, List}
 use Rattle.std.proofs.lemmas.Bool.{cond_both}
-use Rattle.std.specs.List.{AllByRecursion as All}
+use Rattle.std.specs.List.{AllByRecursion}
 use Rattle.value.specs.Values.{Bytes}
 use Rattle.table.specs.Rows.{PlainRow}
 use Rattle.chain.specs.declared.access.Access.{Access}
@@ -26,7 +26,7 @@ next_byte g b l =
     (λ _. cond_both (leb 128 g) Group End AheadByte (λ _. tt) (λ _. tt))
 
 abbrev CarryBytes : List PlainItem → Type 0
-CarryBytes items = All (λ x. Bytes (carried x)) items
+CarryBytes items = AllByRecursion (λ x. Bytes (carried x)) items
 
 module _ (access : Access) (rows : List PlainRow) where
   onward_carries : (i g b : ℕ) (bs : List ℕ) (l : Look) (rest : ℕ → Walked) → Right access rows i g b bs l → g < 256 → b < 256 → Bytes bs →
@@ -51,5 +51,5 @@ module _ (access : Access) (rows : List PlainRow) where
     more = λ i b bs _ _. tt;
   }
 
-  pub items_octets : (bs : List ℕ) → Bytes bs → All (λ x. Bytes (carried x)) (chain_by access rows bs).items
+  pub items_octets : (bs : List ℕ) → Bytes bs → AllByRecursion (λ x. Bytes (carried x)) (chain_by access rows bs).items
   items_octets bs = walk-by (opens_by access rows) (look_by access rows) Carries carries 1 Group 0 bs tt

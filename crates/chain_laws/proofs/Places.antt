@@ -1,6 +1,6 @@
 -- The places that the reading of a chain tells lie in the data.
 use Rattle.std.proofs.Common.{◌≡◌, ℕ, ◌+◌, ◌<◌, ◌≤◌, List, [], ◌∷◌, length, Some, None, Option, sym, refl, subst, arith}
-use Rattle.std.specs.List.{AllByRecursion as All}
+use Rattle.std.specs.List.{AllByRecursion}
 use Rattle.table.specs.Rows.{PlainRow}
 use Rattle.chain.specs.declared.access.Access.{Access}
 use Rattle.chain.specs.declared.fault.RackFault.{RackFault}
@@ -35,7 +35,7 @@ ascend_longer from end end' [] l a = tt
 ascend_longer from end end' (p ∷ ps) l a = (a.0, omega (arith, a.1), ascend_longer (p + 1) end end' ps l a.2)
 
 -- places that ascend so lie between the two, each of them
-pub ascend_inside : (from end : ℕ) (ps : List ℕ) → Ascend from end ps → All (λ p. (from ≤ p) × (p < end)) ps
+pub ascend_inside : (from end : ℕ) (ps : List ℕ) → Ascend from end ps → AllByRecursion (λ p. (from ≤ p) × (p < end)) ps
 ascend_inside from end [] a = tt
 ascend_inside from end (p ∷ ps) a = ((a.0, a.1), ascend_inside from end ps (ascend_lower (p + 1) from end ps (omega (arith, a.0)) a.2))
 

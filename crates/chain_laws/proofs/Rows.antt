@@ -2,7 +2,7 @@
 use Rattle.std.proofs.Common.{◌≡◌, ℕ, suc, ◌<◌, ◌≤◌, Bool, true, false, ◌&&◌, ◌||◌, eqb, leb, List, [], ◌∷◌, ◌++◌, length, Some, None, Option, sym, refl, ap, subst, arith}
 use Rattle.std.proofs.ByRecursion.{All-weaker}
 use Rattle.std.proofs.lemmas.Bool.{and_parts, eqb-true, leb-true}
-use Rattle.std.specs.List.{AllByRecursion as All}
+use Rattle.std.specs.List.{AllByRecursion}
 use Rattle.number.specs.Numbers.{char, integer, long, float}
 use Rattle.number.specs.Ranges.{between}
 use Rattle.table.specs.declared.Kind.{Kind}
@@ -27,13 +27,13 @@ use Rattle.chain_laws.proofs.Octets.{items_octets}
 
 module _ (access : Access) (rows : List PlainRow) where
   record Sound (w : Walked) : Type 0 where
-    stand : All (λ f. f.row < length rows) w.found
+    stand : AllByRecursion (λ f. f.row < length rows) w.found
     matched : ForFound w.items w.found
     complete : w.refusal ≡ None → length w.items ≡ length w.found
-    items : All (λ x. row_of x < length rows) w.items
-    granted : All (Granted access rows) w.items
+    items : AllByRecursion (λ x. row_of x < length rows) w.items
+    granted : AllByRecursion (Granted access rows) w.items
 
-  refused_sound : (f : RackFault) (fs : List Found) → All (λ x. x.row < length rows) fs → Sound (record { found = fs; items = []; refusal = Some f })
+  refused_sound : (f : RackFault) (fs : List Found) → AllByRecursion (λ x. x.row < length rows) fs → Sound (record { found = fs; items = []; refusal = Some f })
   refused_sound f fs h =
       record { stand = h; matched = tt; complete = λ e. let z : ◌≡◌ {A = ℕ} 0 1 = cc in absurd (omega arith); items = tt; granted = tt }
 

@@ -1,7 +1,7 @@
 -- Some of the checks of a chain in plain words, to compare with the rules without following a walk. Places are indexes of data bytes:
 -- the command is at 0.
 use Rattle.std.specs.Prelude.{◌≡◌, ℕ, Bool, true, false, List, [], ◌∷◌, ◌++◌, Some}
-use Rattle.std.specs.List.{AllByRecursion as All}
+use Rattle.std.specs.List.{AllByRecursion}
 use Rattle.table.specs.Rows.{PlainRow}
 use Rattle.table.specs.Draws.{row_at}
 use Rattle.table.specs.Tables.{place, has_process, Ruled}
@@ -30,7 +30,7 @@ pub record Checked (rows : List PlainRow) : Type 0 where
   -- while rows are locked, the first secured row to whose value a write gets refuses it, at the row's parameter byte, whatever the
   -- value is and whatever comes behind it
   pub locked : (bs : List ℕ) (before after : List Found) (f : Found) → (write_reading rows bs).found ≡ before ++ f ∷ after →
-      All (λ x. (row_at rows x.row).secured ≡ false) before → f.reached ≡ true → (row_at rows f.row).secured ≡ true →
+      AllByRecursion (λ x. (row_at rows x.row).secured ≡ false) before → f.reached ≡ true → (row_at rows f.row).secured ≡ true →
       (chain_by (Write false) rows bs).refusal ≡ Some (Secured f.place)
   -- a message cannot unlock its own items: that it gives row 0 the value 64 (80, 0A, 40) before a secured row changes nothing
   pub own_unlock : (limits : List ℕ) → Ruled rows limits → (g q r : ℕ) (bs : List ℕ) → Names rows g q r →

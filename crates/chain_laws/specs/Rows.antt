@@ -1,6 +1,6 @@
 -- The rows that the reading of a chain finds, and what its items carry.
 use Rattle.std.specs.Prelude.{◌≡◌, ℕ, ◌<◌, ◌≤◌, true, false, List, [], ◌∷◌, length, None}
-use Rattle.std.specs.List.{AllByRecursion as All}
+use Rattle.std.specs.List.{AllByRecursion}
 use Rattle.value.specs.Values.{Bytes}
 use Rattle.table.specs.Rows.{PlainRow, admitted}
 use Rattle.table.specs.Draws.{row_at}
@@ -34,17 +34,17 @@ carried (read q) = repeated q
 -- `w` is what the reading of `bs` gives
 pub record Standing (access : Access) (rows : List PlainRow) (bs : List ℕ) (w : Walked) : Type 0 where
   -- every row found is a row of the table
-  pub rows_stand : All (λ f. f.row < length rows) w.found
+  pub rows_stand : AllByRecursion (λ f. f.row < length rows) w.found
   -- the items are for rows found, and where nothing refuses, every row found has its item
   pub for_found : ForFound w.items w.found
   pub all_taken_lem : w.refusal ≡ None → length w.items ≡ length w.found
   -- so every item's row is a row of the table; and the row grants the item
-  pub items_stand : All (λ x. row_of x < length rows) w.items
-  pub granted : All (Granted access rows) w.items
+  pub items_stand : AllByRecursion (λ x. row_of x < length rows) w.items
+  pub granted : AllByRecursion (Granted access rows) w.items
   -- in a table that keeps the rules, no item carries more than the 24 bytes of a value
-  pub short : (limits : List ℕ) → Ruled rows limits → All (λ x. length (carried x) ≤ 24) w.items
+  pub short : (limits : List ℕ) → Ruled rows limits → AllByRecursion (λ x. length (carried x) ≤ 24) w.items
   -- of bytes, the items carry bytes
-  pub octets : Bytes bs → All (λ x. Bytes (carried x)) w.items
+  pub octets : Bytes bs → AllByRecursion (λ x. Bytes (carried x)) w.items
 
 abbrev pub RowsFoundStand : Type 0
 RowsFoundStand = (access : Access) (rows : List PlainRow) (bs : List ℕ) → Standing access rows bs (chain_by access rows bs)

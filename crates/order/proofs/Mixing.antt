@@ -4,7 +4,7 @@ use Rattle.std.proofs.lemmas.List.{get_or_at, get_or_append_left}
 use Rattle.order.specs.Calls.{Calls, Meet}
 use Rattle.order.specs.Reordering.{Rearranged}
 use Rattle.order.specs.Mixing.{Mixed, none, from_first, from_second, Apart, Mixing}
-use Rattle.order.proofs.Places.{skip, back, moved, skip_is, back_is, moved_is, skip_other, back_skip, skip_back, get_d_gap}
+use Rattle.order.proofs.Places.{skip, back, moved, skip_is, back_is, moved_is, skip_other, back_skip, skip_back, get_or_gap}
 
 -- where c, which stands after b and before t in the first list, meets none of b, it may stand recast at the front of the second
 module _ {Call Outcome Value State : Type 0} (calls : Calls Call Outcome Value State) (Recast : Call → Call → Type 0)
@@ -39,7 +39,7 @@ module _ {Call Outcome Value State : Type 0} (calls : Calls Call Outcome Value S
   at_here x = get_or_at b c t x (length b) refl
 
   at_other : (x : Call) (i : ℕ) → (i ≡ length b → ⊥) → get_or (b ++ c ∷ t) i x ≡ get_or (b ++ t) (back (length b) i) x
-  at_other x i o = get_d_gap b t c x i o
+  at_other x i o = get_or_gap b t c x i o
 
   from_below : (j : ℕ) → j < length (d ∷ n) → from_front j < length (b ++ c ∷ t)
   unfolding from_front

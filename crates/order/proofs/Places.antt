@@ -51,9 +51,9 @@ pub skip_back : (k j : ℕ) → (j ≡ k → ⊥) → skip k (back k j) ≡ j
 skip_back k j n = let h = back_is k j n in let g = skip_is k (back k j) in omega arith
 
 -- what stands at j, read in the list without the element after p
-pub get_d_gap : {X : Type 0} (p q : List X) (y x : X) (j : ℕ) → (j ≡ length p → ⊥) → get_or (p ++ y ∷ q) j x ≡ get_or (p ++ q) (back (length p) j) x
+pub get_or_gap : {X : Type 0} (p q : List X) (y x : X) (j : ℕ) → (j ≡ length p → ⊥) → get_or (p ++ y ∷ q) j x ≡ get_or (p ++ q) (back (length p) j) x
 unfolding back
-get_d_gap [] q y x zero n = absurd (n refl)
-get_d_gap [] q y x (suc j) n = refl
-get_d_gap (a ∷ p) q y x zero n = refl
-get_d_gap (a ∷ p) q y x (suc j) n = get_d_gap p q y x j (λ e. n (ap suc e))
+get_or_gap [] q y x zero n = absurd (n refl)
+get_or_gap [] q y x (suc j) n = refl
+get_or_gap (a ∷ p) q y x zero n = refl
+get_or_gap (a ∷ p) q y x (suc j) n = get_or_gap p q y x j (λ e. n (ap suc e))

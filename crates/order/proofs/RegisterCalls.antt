@@ -58,10 +58,10 @@ answered-by (Write r v) s s' h = ap write_of (h r (here r))
 answered-by (Copy q r) s s' h =
     let e = h q (or_left (eqb q q) (eqb q r) (here q)) in let f = h r (or_right (eqb r q) (eqb r r) (here r)) in cc
 
-written-by : (a : Ask) (s s' : List ℕ) → Agreed a s s' → (k : ℕ) → written a k ≡ true → slice_get (left a s) k ≡ slice_get (left a s') k
-written-by (Read r) s s' h k w = cc
-written-by (Write r v) s s' h k w = rw (eqb-true k r w) (stored_same (Some v) s s' r (h r (here r)))
-written-by (Copy q r) s s' h k w =
+written_by : (a : Ask) (s s' : List ℕ) → Agreed a s s' → (k : ℕ) → written a k ≡ true → slice_get (left a s) k ≡ slice_get (left a s') k
+written_by (Read r) s s' h k w = cc
+written_by (Write r v) s s' h k w = rw (eqb-true k r w) (stored_same (Some v) s s' r (h r (here r)))
+written_by (Copy q r) s s' h k w =
     rw (eqb-true k r w)
     (stored_same (slice_get s q) s s' r (h r (or_right (eqb r q) (eqb r r) (here r))) ∙
     ap (λ (o : Option ℕ). slice_get (stored o s' r) r) (h q (or_left (eqb q q) (eqb q r) (here q))))
@@ -71,8 +71,8 @@ premises = record {
   local = record {
     written_concerns = λ c. written-concerned c.ask;
     others_stay = λ c. others_stay c.ask;
-    outcome-by = λ c s s' h. ap (λ a. record { tag = c.tag; answer = a }) (answered-by c.ask s s' h);
-    written-by = λ c. written-by c.ask;
+    outcome_by = λ c s s' h. ap (λ a. record { tag = c.tag; answer = a }) (answered-by c.ask s s' h);
+    written_by = λ c. written_by c.ask;
   };
   recast = λ c d e. record {
     outcome = λ s. ap (λ a. answered a s) e;

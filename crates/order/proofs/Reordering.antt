@@ -5,7 +5,7 @@ use lib.Seq.{split_at}
 use Rattle.std.proofs.lemmas.List.{get_or_at, get_or_append_left, length-take-le}
 use Rattle.order.specs.Calls.{Calls, Agree, Premises, Meet, outcomes, final}
 use Rattle.order.specs.Reordering.{Rearranged, SameRun, Reorderable}
-use Rattle.order.proofs.Places.{skip, back, skip_is, back_is, skip_other, back_skip, skip_back, get_d_gap}
+use Rattle.order.proofs.Places.{skip, back, skip_is, back_is, skip_other, back_skip, skip_back, get_or_gap}
 use Rattle.order.proofs.Runs.{length-outcomes, outcomes-append, meet_alike, outcome_agree, after_agree, outcomes_first, final_first}
 
 -- c is the first call of the first list, and d is that call, recast, in the second: after b and before t
@@ -76,7 +76,7 @@ module _ {Call Outcome Value State : Type 0} (calls : Calls Call Outcome Value S
         ap (back (length b)) (p.to_from (skip (length b) j) (skip_below j h)) ∙ back_skip (length b) j;
     each = λ x i h.
         subst (λ (y : Call). Recast (get_or l i x) y)
-        (ap (λ (q : List Call). get_or q (p.to (suc i)) x) e ∙ get_d_gap b t d x (p.to (suc i)) (other i h))
+        (ap (λ (q : List Call). get_or q (p.to (suc i)) x) e ∙ get_or_gap b t d x (p.to (suc i)) (other i h))
         (p.each x (suc i) (omega arith));
     keeps = λ x i j h k q.
         let o : i < length l = omega arith in
@@ -126,7 +126,7 @@ module _ {Call Outcome Value State : Type 0} (calls : Calls Call Outcome Value S
           ap (λ (n : ℕ). get_or (outcomes calls b (calls.after d s') ++ outcomes calls t (final calls b (calls.after d s'))) (back n (p.to (suc i))) x) (sym k) ∙
           sym
           (ap (λ (q : List Outcome). get_or q (p.to (suc i)) x) made_first ∙
-          get_d_gap (outcomes calls b (calls.after d s')) (outcomes calls t (final calls b (calls.after d s'))) (calls.outcome d s') x (p.to (suc i))
+          get_or_gap (outcomes calls b (calls.after d s')) (outcomes calls t (final calls b (calls.after d s'))) (calls.outcome d s') x (p.to (suc i))
           (λ q. other i (omega arith) (q ∙ k))))
           (f i (omega arith))
 

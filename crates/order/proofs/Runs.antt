@@ -24,7 +24,7 @@ module _ {Call Outcome Value State : Type 0} (calls : Calls Call Outcome Value S
   outcome_at x y (c ∷ l) s (suc i) h = outcome_at x y l (calls.after c s) i (omega arith)
 
   pub runs : Runs calls
-  runs = record { as_many = length-outcomes; place = outcome_at; joined-outcomes = outcomes-append; joined-final = final-append }
+  runs = record { as_many = length-outcomes; place = outcome_at; joined_outcomes = outcomes-append; joined_final = final-append }
 
   meet_sym : (c d : Call) → Meet calls c d → Meet calls d c
   meet_sym c d (r, inl h) = (r, inr h)
@@ -38,11 +38,11 @@ module _ {Call Outcome Value State : Type 0} (calls : Calls Call Outcome Value S
 module _ {Call Outcome Value State : Type 0} (calls : Calls Call Outcome Value State) (w : Local calls) where
   -- from states that agree, a call and a run have equal outcomes and leave states that agree
   pub outcome_agree : (c : Call) (s s' : State) → Agree calls s s' → calls.outcome c s ≡ calls.outcome c s'
-  outcome_agree c s s' h = w.outcome-by c s s' (λ q _. h q)
+  outcome_agree c s s' h = w.outcome_by c s s' (λ q _. h q)
 
   pub after_agree : (c : Call) (s s' : State) → Agree calls s s' → Agree calls (calls.after c s) (calls.after c s')
   after_agree c s s' h r =
-      ⊎_elim (λ e. w.written-by c s s' (λ q _. h q) r e)
+      ⊎_elim (λ e. w.written_by c s s' (λ q _. h q) r e)
       (λ e. w.others_stay c s r e ∙ h r ∙ sym (w.others_stay c s' r e)) (cases_Bool (calls.writes c r))
 
   outcomes_agree : (l : List Call) (s s' : State) → Agree calls s s' → outcomes calls l s ≡ outcomes calls l s'
@@ -68,11 +68,11 @@ module _ {Call Outcome Value State : Type 0} (calls : Calls Call Outcome Value S
       let n' : Meet calls e d → ⊥ = λ h. n (meet_sym calls e d h) in
       ⊎_elim
       (λ (k : calls.writes d r ≡ true).
-      w.written-by d (calls.after e s) s (untouched e d s n') r k ∙
+      w.written_by d (calls.after e s) s (untouched e d s n') r k ∙
       sym (w.others_stay e (calls.after d s) r (unwritten e d n' r (w.written_concerns d r k))))
       (λ (k : calls.writes d r ≡ false).
       w.others_stay d (calls.after e s) r k ∙
-      ⊎_elim (λ (q : calls.writes e r ≡ true). sym (w.written-by e (calls.after d s) s (untouched d e s n) r q))
+      ⊎_elim (λ (q : calls.writes e r ≡ true). sym (w.written_by e (calls.after d s) s (untouched d e s n) r q))
       (λ (q : calls.writes e r ≡ false).
       w.others_stay e s r q ∙ sym (w.others_stay d s r k) ∙ sym (w.others_stay e (calls.after d s) r q))
       (cases_Bool (calls.writes e r)))
@@ -87,9 +87,9 @@ module _ {Call Outcome Value State : Type 0} (calls : Calls Call Outcome Value S
       let n₀ : Meet calls d e → ⊥ = n 0 (omega arith) in
       let a = commute d e s n₀ in
       let e₀ = outcomes_first d b t (calls.after e s) (λ j h. n (suc j) (omega arith)) in
-      let e₁ = w.outcome-by e (calls.after d s) s (untouched d e s n₀) in
+      let e₁ = w.outcome_by e (calls.after d s) s (untouched d e s n₀) in
       let e₂ = outcomes_agree b (calls.after d (calls.after e s)) (calls.after e (calls.after d s)) a in
-      let e₃ = w.outcome-by d (calls.after e s) s (untouched e d s (λ h. n₀ (meet_sym calls e d h))) in
+      let e₃ = w.outcome_by d (calls.after e s) s (untouched e d s (λ h. n₀ (meet_sym calls e d h))) in
       let e₄ =
       outcomes_agree t (final calls b (calls.after d (calls.after e s))) (final calls b (calls.after e (calls.after d s)))
       (final_agree b (calls.after d (calls.after e s)) (calls.after e (calls.after d s)) a) in

@@ -24,8 +24,8 @@ module _ {Call Outcome Value State : Type 0} (calls : Calls Call Outcome Value S
   pub record Local : Type 0 where
     pub written_concerns : (c : Call) (r : ℕ) → calls.writes c r ≡ true → calls.concerns c r ≡ true
     pub others_stay : (c : Call) (s : State) (r : ℕ) → calls.writes c r ≡ false → calls.row (calls.after c s) r ≡ calls.row s r
-    pub outcome-by : (c : Call) (s s' : State) → AgreeFor c s s' → calls.outcome c s ≡ calls.outcome c s'
-    pub written-by : (c : Call) (s s' : State) → AgreeFor c s s' → (r : ℕ) → calls.writes c r ≡ true →
+    pub outcome_by : (c : Call) (s s' : State) → AgreeFor c s s' → calls.outcome c s ≡ calls.outcome c s'
+    pub written_by : (c : Call) (s s' : State) → AgreeFor c s s' → (r : ℕ) → calls.writes c r ≡ true →
         calls.row (calls.after c s) r ≡ calls.row (calls.after c s') r
 
   -- two calls are alike when they have the same outcome in every state, leave states that agree, and write and concern the same rows

@@ -4,7 +4,7 @@ use Rattle.order.specs.Calls.{Calls, Agree, Premises, Meet, outcomes, final}
 
 module _ {Call Outcome Value State : Type 0} (calls : Calls Call Outcome Value State) where
   -- l' is l rearranged: the places of the two lists are mapped one to one, the call at place i of l stands recast at place `to i`
-  -- of l', and any two calls that meet stand in the same order in both. (`get_or l i x` is the call at place i; x is never read,
+  -- of l', and any two calls that meet stand in the same order in both. (`slice_index_or l i x` is the call at place i; x is never read,
   -- since i is a place of the list.)
   pub record Rearranged (Recast : Call → Call → Type 0) (l l' : List Call) : Type 0 where
     pub to : ℕ → ℕ

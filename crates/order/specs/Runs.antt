@@ -8,5 +8,5 @@ pub record Runs {Call Outcome Value State : Type 0} (calls : Calls Call Outcome 
   pub as_many : (l : List Call) (s : State) → length (outcomes calls l s) ≡ length l
   pub place : (x : Call) (y : Outcome) (l : List Call) (s : State) (i : ℕ) → i < length l →
       slice_index_or (outcomes calls l s) i y ≡ calls.outcome (slice_index_or l i x) (final calls (take i l) s)
-  pub joined-outcomes : (k l : List Call) (s : State) → outcomes calls (k ++ l) s ≡ outcomes calls k s ++ outcomes calls l (final calls k s)
-  pub joined-final : (k l : List Call) (s : State) → final calls (k ++ l) s ≡ final calls l (final calls k s)
+  pub joined_outcomes : (k l : List Call) (s : State) → outcomes calls (k ++ l) s ≡ outcomes calls k s ++ outcomes calls l (final calls k s)
+  pub joined_final : (k l : List Call) (s : State) → final calls (k ++ l) s ≡ final calls l (final calls k s)

@@ -201,8 +201,8 @@ local : (s : Setup) → Ruled s.rows s.limits → Local (rack_calls s)
 local s ruled = record {
   written_concerns = λ c r. written-concerned s.rows (request_of s c) r;
   others_stay = λ c h r e. ap (λ (v : List ℕ). cond (ltb r (length s.rows)) v []) (after_stays s (request_of s c) h r (in_table s c) e);
-  outcome-by = λ c h h' e. reply_by s ruled (request_of s c) h h' (in_table s c) (agreed s c h h' e);
-  written-by = λ c h h' e r q.
+  outcome_by = λ c h h' e. reply_by s ruled (request_of s c) h h' (in_table s c) (agreed s c h h' e);
+  written_by = λ c h h' e r q.
       hidden (length s.rows) r (values_after s h (request_of s c) r) (values_after s h' (request_of s c) r) []
       (λ l. after-by s ruled (request_of s c) h h' (in_table s c) (agreed s c h h' e) r l q);
 }

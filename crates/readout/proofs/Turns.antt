@@ -1,7 +1,7 @@
 -- The turns of the loop that puts the answer to a read together.
 use Rattle.std.proofs.Common.{◌≡◌, ℕ, ◌<◌, Bool, true, false, cond, ltb, List, [], ◌∷◌, ◌++◌, length, Some, None, Ok, Err, Option, Result, sym, refl, ap, ◌∙◌, subst, arith}
 use Rattle.std.proofs.lemmas.Bool.{cond-true, cond-false}
-use Rattle.std.specs.List.{AllByRecursion as All}
+use Rattle.std.specs.List.{AllByRecursion}
 use Rattle.table.specs.Rows.{PlainRow}
 use Rattle.table.specs.Draws.{row_at}
 use Rattle.chain.specs.declared.access.Access.TheVariants.{Read}
@@ -20,13 +20,13 @@ use Rattle.chain_laws.proofs.Rows.{rows_found_stand}
 use Rattle.readout.specs.Told.{result_of}
 
 -- the items of a read are for rows of the table
-pub rows_of_table : (rows : List PlainRow) (bs : List ℕ) → All (λ x. row_of x < length rows) (chain_of Read rows bs).items
+pub rows_of_table : (rows : List PlainRow) (bs : List ℕ) → AllByRecursion (λ x. row_of x < length rows) (chain_of Read rows bs).items
 rows_of_table rows [] = tt
 rows_of_table rows (command ∷ bs) = (rows_found_stand Read rows bs).items_stand
 
 -- where an item is given, it and those left have what all had
-pub all_given : (P : PlainItem → Type 0) (w : Walked) (x : PlainItem) → Ok (Some x) ≡ given w → All P w.items → P x × All P (left w).items
-all_given P w x e a = subst (All P) (item_given w x e) a
+pub all_given : (P : PlainItem → Type 0) (w : Walked) (x : PlainItem) → Ok (Some x) ≡ given w → AllByRecursion P w.items → P x × AllByRecursion P (left w).items
+all_given P w x e a = subst (AllByRecursion P) (item_given w x e) a
 
 put_in : (b : Bool) (f : ChainFault) → ◌≡◌ {A = Result (Unit {0}) ChainFault} (Ok tt) (cond b (Err f) (Ok tt)) → b ≡ false
 put_in true f e = let z : ◌≡◌ {A = ℕ} 0 1 = cc in absurd (omega arith)

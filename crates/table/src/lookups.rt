@@ -1,5 +1,5 @@
 // Looking up rows and limits.
-ghost use Rattle.std.specs.Prelude.{◌≡◌, true, ◌&&◌, leb, map, length, take, IfSome, if◌then◌else◌, Some, None, ◌==◌, nat_le, nat_lt};
+ghost use Rattle.std.specs.Prelude.{◌≡◌, true, ◌&&◌, map, length, take, IfSome, if◌then◌else◌, Some, None, ◌==◌, nat_le, nat_lt};
 ghost use Rattle.std.specs.Option.{option_map};
 ghost use Rattle.value.specs.Values.{bytes_of};
 ghost use Rattle.table.specs.Rows.{plain, admitted, has_pair};
@@ -83,7 +83,7 @@ impl Table {
 
     /// The limit of a feed in ml/min, or `None` for a feed outside 1 to 8.
     pub fn limit(&self, feed: u8) -> Option<u32>
-        ensures { result ≡ (if leb 1 feed && nat_le feed 8 then Some (limit_of (limits_of self.now) feed) else None) }
+        ensures { result ≡ (if nat_le 1 feed && nat_le feed 8 then Some (limit_of (limits_of self.now) feed) else None) }
     {
         if feed == 0 || feed as usize > FEEDS {
             return None;

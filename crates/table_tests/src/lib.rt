@@ -221,7 +221,7 @@ mod tests {
             Some(value) => {
                 assert_eq!(rt; value.as_slice(), [82].as_slice());
                 Ok(())
-            },
+            }
             None => Err(Fail::new("row 0 has a default")),
         }
     }

@@ -1,7 +1,7 @@
 -- One turn of a loop over the items of a chain.
 use Rattle.std.proofs.Common.{◌≡◌, ℕ, ◌<◌, Bool, true, false, cond, eqb, List, [], ◌∷◌, length, drop, Some, None, Ok, Err, Option, sym, refl, ap, ◌∙◌, subst, arith}
 use Rattle.std.proofs.ByRecursion.{All-weaker}
-use Rattle.std.specs.List.{AllByRecursion as All}
+use Rattle.std.specs.List.{AllByRecursion}
 use Rattle.std.specs.Option.{option_map}
 use Rattle.table.specs.Rows.{PlainRow}
 use Rattle.table.specs.Draws.{row_at}
@@ -56,24 +56,24 @@ pub fewer : (items rest : List PlainItem) (x : PlainItem) → Some x ≡ first_i
 fewer items rest x e r = omega (arith, ap length (first_item_lem items x e), ap length r)
 
 -- the rows of the items are among the 128
-pub row_fits : (items : List PlainItem) (x : PlainItem) → Some x ≡ first_item items → All (λ y. row_of y < 128) items → row_of x < 128
+pub row_fits : (items : List PlainItem) (x : PlainItem) → Some x ≡ first_item items → AllByRecursion (λ y. row_of y < 128) items → row_of x < 128
 row_fits [] x e h = let z : ◌≡◌ {A = ℕ} 0 1 = cc in absurd (omega arith)
 row_fits (y ∷ items) x e h = let q : x ≡ y = cc in omega (arith, ap row_of q, h.0)
 
-rows_behind : (items : List PlainItem) → All (λ y. row_of y < 128) items → All (λ y. row_of y < 128) (drop 1 items)
+rows_behind : (items : List PlainItem) → AllByRecursion (λ y. row_of y < 128) items → AllByRecursion (λ y. row_of y < 128) (drop 1 items)
 rows_behind [] h = h
 rows_behind (y ∷ items) h = h.1
 
-pub rows_fit : (items rest : List PlainItem) → rest ≡ drop 1 items → All (λ y. row_of y < 128) items → All (λ y. row_of y < 128) rest
-rows_fit items rest r h = subst (λ (ys : List PlainItem). All (λ y. row_of y < 128) ys) (sym r) (rows_behind items h)
+pub rows_fit : (items rest : List PlainItem) → rest ≡ drop 1 items → AllByRecursion (λ y. row_of y < 128) items → AllByRecursion (λ y. row_of y < 128) rest
+rows_fit items rest r h = subst (λ (ys : List PlainItem). AllByRecursion (λ y. row_of y < 128) ys) (sym r) (rows_behind items h)
 
-all_fit : (rows : List PlainRow) (limits message : List ℕ) → Ruled rows limits → All (λ y. row_of y < 128) (chain_of (Write true) rows message).items
+all_fit : (rows : List PlainRow) (limits message : List ℕ) → Ruled rows limits → AllByRecursion (λ y. row_of y < 128) (chain_of (Write true) rows message).items
 all_fit rows limits [] t = tt
 all_fit rows limits (c ∷ bs) t =
     All-weaker (λ y. row_of y < length rows) (λ y. row_of y < 128) (λ y l. omega (arith, t.few)) (chain_of (Write true) rows (c ∷ bs)).items (rows_found_stand (Write true) rows bs).items_stand
 
-pub items_fit : (rows : List PlainRow) (limits message : List ℕ) (w : Walked) → Ruled rows limits → w ≡ chain_of (Write true) rows message → All (λ y. row_of y < 128) w.items
-items_fit rows limits message w t e = subst (λ (v : Walked). All (λ y. row_of y < 128) v.items) (sym e) (all_fit rows limits message t)
+pub items_fit : (rows : List PlainRow) (limits message : List ℕ) (w : Walked) → Ruled rows limits → w ≡ chain_of (Write true) rows message → AllByRecursion (λ y. row_of y < 128) w.items
+items_fit rows limits message w t e = subst (λ (v : Walked). AllByRecursion (λ y. row_of y < 128) v.items) (sym e) (all_fit rows limits message t)
 
 -- a state that the items change one after the other
 module _ {State : Type 0} (run : List PlainItem → State → State)

@@ -1,6 +1,6 @@
 use Rattle.std.proofs.Common.{◌≡◌, ℕ, ◌<◌, List, length, Some, Ok, Err, Option, sym, ap, ◌∙◌, subst, arith}
 use Rattle.std.proofs.lemmas.Result.{err_from_is_err_and}
-use Rattle.std.specs.List.{AllByRecursion as All}
+use Rattle.std.specs.List.{AllByRecursion}
 use Rattle.table.specs.Held.{rows_of}
 use Rattle.chain.specs.declared.access.Access.TheVariants.{Read}
 use Rattle.chain.specs.declared.fault.RackFault.{RackFault}
@@ -31,10 +31,10 @@ one_fewer g c =
 abbrev OfTable : (g : over.Over) → goal.In-Some g → PlainItem → Type 0
 OfTable g c x = row_of x < length (rows_of c.args.table.now)
 
-of_table : (g : over.Over) (c : goal.In-Some g) → OfTable g c (plain_item c.in-Some.item) × All (OfTable g c) (remaining c.next.new.self).items
+of_table : (g : over.Over) (c : goal.In-Some g) → OfTable g c (plain_item c.in-Some.item) × AllByRecursion (OfTable g c) (remaining c.next.new.self).items
 of_table g c =
     let a = all_given (OfTable g c) (remaining c.loop-item.chain) (plain_item c.in-Some.item) (item_told g c) c.loop-item.invariant.1 in
-    (a.0, subst (λ (w : Walked). All (OfTable g c) w.items) (sym c.in_ok-item.ensures.rest) a.1)
+    (a.0, subst (λ (w : Walked). AllByRecursion (OfTable g c) w.items) (sym c.in_ok-item.ensures.rest) a.1)
 
 abbrev values_of : (g : over.Over) → goal.In-Some g → Values
 values_of g c = values_in (g.S.Store.held c.args.store.now)
@@ -48,7 +48,7 @@ loop-item-init g c =
     let h = values_in (g.S.Store.held c.args.store.now) in (
       ap (λ (bs : List ℕ). answer_from rows h bs (remaining c.new-chain.result).items (remaining c.new-chain.result).refusal) c.new-answer.ensures
           ∙ ap (read_answer rows h) c.new-chain.ensures,
-      subst (λ (w : Walked). All (λ x. row_of x < length rows) w.items) (sym c.new-chain.ensures) (rows_of_table rows c.args.message.now),
+      subst (λ (w : Walked). AllByRecursion (λ x. row_of x < length rows) w.items) (sym c.new-chain.ensures) (rows_of_table rows c.args.message.now),
     )
 
 pub returns-in_err-item : goal.returns-in_err-item

@@ -1,5 +1,5 @@
 use Rattle.std.proofs.Common.{◌≡◌, ◌<◌, length}
-use Rattle.std.specs.List.{AllByRecursion as All}
+use Rattle.std.specs.List.{AllByRecursion}
 use Rattle.chain.specs.Items.{row_of}
 use Rattle.chain.specs.Reader.{remaining}
 use Rattle.writing.specs.Numbers.{lay_numbers}
@@ -9,7 +9,7 @@ use Rattle.writing.proofs.feeds.lay_over.Given as goal
 abbrev pub invariant-loop-item : goal.invariant-loop-item
 invariant-loop-item l =
     (lay_numbers (remaining l.chain).items l.numbers ≡ lay_numbers (remaining l.initial.chain).items l.initial.numbers)
-    × All (λ x. row_of x < 128) (remaining l.chain).items
+    × AllByRecursion (λ x. row_of x < 128) (remaining l.chain).items
 
 -- one item fewer is left
 abbrev pub decreases-loop-item : goal.decreases-loop-item
