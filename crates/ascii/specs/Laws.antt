@@ -18,8 +18,8 @@ use Rattle.ascii.specs.Digits.{length-hexes}
 value-digit : (v : ℕ) → v < 16 → value (digit v) ≡ Some v
 value-digit v h = grind (arith, nat_tests)
 
-digit_value : (c v : ℕ) → value c ≡ Some v → (v < 16) × (digit v ≡ c)
-digit_value c v e = grind (arith, nat_tests)
+digit-value : (c v : ℕ) → value c ≡ Some v → (v < 16) × (digit v ≡ c)
+digit-value c v e = grind (arith, nat_tests)
 
 spelled-hexes : (p : List ℕ) → Bytes p → spelled (hexes p) ≡ Some p
 spelled-hexes [] h = refl
@@ -50,8 +50,8 @@ hexes-spelled [] p e = let w : [] ≡ p = cc in subst (λ (z : List ℕ). (hexes
 hexes-spelled (a ∷ []) p e = let w : ◌≡◌ {A = ℕ} 0 1 = cc in absurd (omega arith)
 hexes-spelled (a ∷ b ∷ r) p e =
     let f = paired_of (value a) (value b) (spelled r) p e in
-    let high = digit_value a f.h f.is_x in
-    let low = digit_value b f.l f.is_y in
+    let high = digit-value a f.h f.is_x in
+    let low = digit-value b f.l f.is_y in
     let rest = hexes-spelled r f.q f.is_z in
     let i : (16 * f.h + f.l) / 16 ≡ f.h = omega (arith, low.0) in
     let j : (16 * f.h + f.l) % 16 ≡ f.l = omega (arith, low.0) in

@@ -44,7 +44,7 @@ pub frame_laid : (e f g head rest : List ℕ) (s k : ℕ) → length head ≡ 3 
     → f ≡ overlaid (set (set e 0 16) 1 2) 2 (doubled head) → s ≡ 2 + length (doubled head)
     → g ≡ overlaid f s (doubled rest) → k ≡ s + length (doubled rest)
     → set (set g k 16) (k + 1) 3 ≡ starting_with (framed (head ++ rest)) e
-frame_laid e f g head rest s k three short room is_f is-s is-g is-k =
+frame_laid e f g head rest s k three short room is-f is-s is-g is-k =
     let h1 : List ℕ = doubled head in
     let h2 : List ℕ = doubled rest in
     let l1 = length-doubled head in
@@ -52,7 +52,7 @@ frame_laid e f g head rest s k three short room is_f is-s is-g is-k =
     let l3 = length-append h1 h2 in
     let e0 : set e 0 16 ≡ overlaid e 0 (16 ∷ []) = set_first e 16 (omega arith) in
     let e1 : set (set e 0 16) 1 2 ≡ overlaid e 0 (16 ∷ 2 ∷ []) = set_more e (set e 0 16) (16 ∷ []) 0 1 2 e0 refl (omega arith) in
-    let f1 : f ≡ overlaid e 0 (16 ∷ 2 ∷ h1) = is_f ∙ overlaid_more e (set (set e 0 16) 1 2) (16 ∷ 2 ∷ []) h1 0 2 e1 refl (omega arith) in
+    let f1 : f ≡ overlaid e 0 (16 ∷ 2 ∷ h1) = is-f ∙ overlaid_more e (set (set e 0 16) 1 2) (16 ∷ 2 ∷ []) h1 0 2 e1 refl (omega arith) in
     let g1 : g ≡ overlaid e 0 (16 ∷ 2 ∷ (h1 ++ h2)) = is-g ∙ overlaid_more e f (16 ∷ 2 ∷ h1) h2 0 s f1 (omega arith) (omega arith) in
     let a = set_more e g (16 ∷ 2 ∷ (h1 ++ h2)) 0 k 16 g1 (omega arith) (omega arith) in
     let b = set_more e (set g k 16) ((16 ∷ 2 ∷ (h1 ++ h2)) ++ 16 ∷ []) 0 (k + 1) 3 a (omega (arith, length-append (16 ∷ 2 ∷ (h1 ++ h2)) (16 ∷ []))) (omega arith) in

@@ -20,7 +20,7 @@ use Rattle.chain.specs.Chains.{process_of, parameter_of, type_of, on_found, valu
 use Rattle.chain.specs.Locks.{first_secured}
 use Rattle.chain_laws.specs.Checks.{Names, ChecksStand}
 use Rattle.chain_laws.proofs.Values.{is_secured}
-use Rattle.chain_laws.proofs.Walks.{Steps, walk-by}
+use Rattle.chain_laws.proofs.Walks.{Steps, walk_by_lem}
 use Rattle.chain_laws.proofs.Looks.{Right, look_right}
 use Rattle.chain_laws.proofs.Locks.{locks_lie_over}
 
@@ -135,5 +135,5 @@ checks_stand rows = record {
       (locks_lie_over false rows bs).refusal ∙
       ap (λ (o : Option RackFault). else o (write_reading rows bs).refusal) (ap (first_secured rows) e ∙ first_behind rows before after f a r s);
   own_unlock = own_locked rows;
-  only_locked = λ access bs i e. walk-by (opens_by access rows) (look_by access rows) (λ i a bs w. LockedOnly access rows w) (only access rows) 1 Group 0 bs i e;
+  only_locked = λ access bs i e. walk_by_lem (opens_by access rows) (look_by access rows) (λ i a bs w. LockedOnly access rows w) (only access rows) 1 Group 0 bs i e;
 }

@@ -11,7 +11,7 @@ use Rattle.chain.specs.Items.{PlainItem}
 use Rattle.chain.specs.Walks.{Walked, barred, spoiled, taken, Look, unfound, on_row, next, onward}
 use Rattle.chain.specs.Chains.{opens_by, look_by, chain_by}
 use Rattle.chain_laws.specs.Rows.{carried}
-use Rattle.chain_laws.proofs.Walks.{Steps, walk-by}
+use Rattle.chain_laws.proofs.Walks.{Steps, walk_by_lem}
 use Rattle.chain_laws.proofs.Looks.{Right, look_right}
 
 -- a group's byte that is ahead is a byte
@@ -52,4 +52,4 @@ module _ (access : Access) (rows : List PlainRow) where
   }
 
   pub items_octets : (bs : List ℕ) → Bytes bs → AllByRecursion (λ x. Bytes (carried x)) (chain_by access rows bs).items
-  items_octets bs = walk-by (opens_by access rows) (look_by access rows) Carries carries 1 Group 0 bs tt
+  items_octets bs = walk_by_lem (opens_by access rows) (look_by access rows) Carries carries 1 Group 0 bs tt

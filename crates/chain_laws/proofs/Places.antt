@@ -11,7 +11,7 @@ use Rattle.chain.specs.Faults.{rack_place, missing, extra}
 use Rattle.chain.specs.Walks.{Walked, barred, spoiled, taken, Look, unfound, on_row, refused_by, onward}
 use Rattle.chain.specs.Chains.{opens_by, look_by, chain_by}
 use Rattle.chain_laws.specs.Places.{found_places, item_places, Ascend, UpTo, Placed}
-use Rattle.chain_laws.proofs.Walks.{Steps, walk-by}
+use Rattle.chain_laws.proofs.Walks.{Steps, walk_by_lem}
 use Rattle.chain_laws.proofs.Looks.{Right, look_right}
 
 -- where a reading stops: at what refuses it, or behind the bytes
@@ -100,7 +100,7 @@ module _ (access : Access) (rows : List PlainRow) where
 
   pub chain_placed : (bs : List ℕ) → Placed 1 (1 + length bs) (chain_by access rows bs)
   chain_placed bs =
-      let s = walk-by (opens_by access rows) (look_by access rows) Stops stops 1 Group 0 bs (1 + length bs) refl in
+      let s = walk_by_lem (opens_by access rows) (look_by access rows) Stops stops 1 Group 0 bs (1 + length bs) refl in
       placed 1 (1 + length bs) (chain_by access rows bs) s
     where
       placed : (from end : ℕ) (w : Walked) → Stopped from end w → Placed from end w

@@ -21,7 +21,7 @@ use Rattle.chain.specs.Items.{PlainItem, write, read, row_of, group_byte}
 use Rattle.chain.specs.Walks.{Found, Walked, barred, spoiled, taken, Look, unfound, on_row, onward}
 use Rattle.chain.specs.Chains.{opens_by, look_by, chain_by}
 use Rattle.chain_laws.specs.Rows.{ForFound, Granted, carried, RowsFoundStand}
-use Rattle.chain_laws.proofs.Walks.{Steps, walk-by}
+use Rattle.chain_laws.proofs.Walks.{Steps, walk_by_lem}
 use Rattle.chain_laws.proofs.Looks.{Right, look_right}
 use Rattle.chain_laws.proofs.Octets.{items_octets}
 
@@ -100,11 +100,11 @@ carried_short Read rows limits t (read q) h = repeated_short q.group q.index
 
 pub rows_found_stand : RowsFoundStand
 rows_found_stand access rows bs =
-    let w = walk-by (opens_by access rows) (look_by access rows) (λ i a bs w. Sound access rows w) (sound access rows) 1 Group 0 bs in
+    let w = walk_by_lem (opens_by access rows) (look_by access rows) (λ i a bs w. Sound access rows w) (sound access rows) 1 Group 0 bs in
     record {
       rows_stand = w.stand;
       for_found = w.matched;
-      all_taken_lem = w.complete;
+      all_taken = w.complete;
       items_stand = w.items;
       granted = w.granted;
       short = λ limits t. All-weaker (Granted access rows) (λ x. length (carried x) ≤ 24) (carried_short access rows limits t) (chain_by access rows bs).items w.granted;

@@ -19,15 +19,15 @@ pub record Steps (look : ℕ → ℕ → Bool → ℕ → List ℕ → Look) (Ho
   pub more : (i b : ℕ) (bs : List ℕ) → Holds i End (b ∷ bs) (refused_by (extra i))
 
 module _ (opens : ℕ → Bool) (look : ℕ → ℕ → Bool → ℕ → List ℕ → Look) (Holds : ℕ → Ahead → List ℕ → Walked → Type 0) (s : Steps look Holds) where
-  pub walk-by : (i : ℕ) (a : Ahead) (k : ℕ) (bs : List ℕ) → Holds i a bs (walk opens look i a k bs)
-  walk-by i a (suc k) [] = s.short i a
-  walk-by i a (suc k) (b ∷ bs) = s.skip i a b bs (walk opens look (i + 1) a k bs) (walk-by (i + 1) a k bs)
-  walk-by i Group zero [] = s.short i Group
-  walk-by i Group zero (g ∷ bs) =
+  pub walk_by_lem : (i : ℕ) (a : Ahead) (k : ℕ) (bs : List ℕ) → Holds i a bs (walk opens look i a k bs)
+  walk_by_lem i a (suc k) [] = s.short i a
+  walk_by_lem i a (suc k) (b ∷ bs) = s.skip i a b bs (walk opens look (i + 1) a k bs) (walk_by_lem (i + 1) a k bs)
+  walk_by_lem i Group zero [] = s.short i Group
+  walk_by_lem i Group zero (g ∷ bs) =
       cond_both (opens g) (walk opens look (i + 1) (InGroup g true) zero bs) (refused_by (NoProcess i)) (Holds i Group (g ∷ bs))
-      (λ _. s.group i g bs (walk opens look (i + 1) (InGroup g true) zero bs) (walk-by (i + 1) (InGroup g true) zero bs)) (λ _. s.closed i g bs)
-  walk-by i (InGroup g first) zero [] = s.short i (InGroup g first)
-  walk-by i (InGroup g first) zero (b ∷ bs) =
-      s.item i g first b bs (λ k. walk opens look (i + 1) (next g b) k bs) (λ k. walk-by (i + 1) (next g b) k bs)
-  walk-by i End zero [] = s.done i
-  walk-by i End zero (b ∷ bs) = s.more i b bs
+      (λ _. s.group i g bs (walk opens look (i + 1) (InGroup g true) zero bs) (walk_by_lem (i + 1) (InGroup g true) zero bs)) (λ _. s.closed i g bs)
+  walk_by_lem i (InGroup g first) zero [] = s.short i (InGroup g first)
+  walk_by_lem i (InGroup g first) zero (b ∷ bs) =
+      s.item i g first b bs (λ k. walk opens look (i + 1) (next g b) k bs) (λ k. walk_by_lem (i + 1) (next g b) k bs)
+  walk_by_lem i End zero [] = s.done i
+  walk_by_lem i End zero (b ∷ bs) = s.more i b bs

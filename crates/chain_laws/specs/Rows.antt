@@ -37,7 +37,7 @@ pub record Standing (access : Access) (rows : List PlainRow) (bs : List ℕ) (w 
   pub rows_stand : AllByRecursion (λ f. f.row < length rows) w.found
   -- the items are for rows found, and where nothing refuses, every row found has its item
   pub for_found : ForFound w.items w.found
-  pub all_taken_lem : w.refusal ≡ None → length w.items ≡ length w.found
+  pub all_taken : w.refusal ≡ None → length w.items ≡ length w.found
   -- so every item's row is a row of the table; and the row grants the item
   pub items_stand : AllByRecursion (λ x. row_of x < length rows) w.items
   pub granted : AllByRecursion (Granted access rows) w.items

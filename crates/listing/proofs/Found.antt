@@ -74,8 +74,8 @@ lines_more text line part after whole n h hs rest inv is is-line is-part is-afte
 -- one frame more is counted
 pub counts_more : (c after whole : Counts) (said : Option Msg) (h : ℕ × Option Msg) (hs rest : List (ℕ × Option Msg))
     → counted_all c hs ≡ whole → hs ≡ h ∷ rest → after ≡ counted c said → said ≡ h.1 → counted_all after rest ≡ whole
-counts_more c after whole said h hs rest inv is is-after is_said =
-    ap (λ (k : Counts). counted_all k rest) (is-after ∙ ap (counted c) is_said) ∙ ap (counted_all c) (sym is) ∙ inv
+counts_more c after whole said h hs rest inv is is-after is-said =
+    ap (λ (k : Counts). counted_all k rest) (is-after ∙ ap (counted c) is-said) ∙ ap (counted_all c) (sym is) ∙ inv
 
 total-counted : (c : Counts) (said : Option Msg) → total (counted c said) ≡ total c + 1
 total-counted c None = omega arith

@@ -5,7 +5,7 @@ use Rattle.std.proofs.lemmas.Bool.Decides.{nat_tests}
 use Rattle.line.specs.Messages.{data_msg}
 use Rattle.ascii.specs.Hex.{digit, hexes}
 use Rattle.listing.specs.Words.{words}
-use Rattle.ascii.specs.Digits.{hexes-append}
+use Rattle.ascii.proofs.Digits.{hexes-append}
 
 digit-ascii : (v : ℕ) → v < 16 → digit v < 128
 digit-ascii v h = grind (arith, nat_tests)

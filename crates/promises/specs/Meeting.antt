@@ -1,5 +1,5 @@
 -- Which calls meet, by the calls and the table alone.
-use Rattle.std.specs.Prelude.{ℕ, Bool, true, false, cond, not, ◌&&◌, ◌||◌, List, [], ◌∷◌, length, ◌==◌, nat_eq, nat_lt}
+use Rattle.std.specs.Prelude.{ℕ, Bool, true, false, cond, not, ◌&&◌, ◌||◌, List, [], ◌∷◌, length, ◌==◌, nat_lt}
 use Rattle.table.specs.Rows.{PlainRow}
 use Rattle.table.specs.Draws.{row_at}
 use Rattle.order.specs.Calls.{Calls}
@@ -35,7 +35,7 @@ of_some p (f ∷ fs) = p f.row || of_some p fs
 
 -- a request names the row r
 abbrev pub names : Request → ℕ → Bool
-names request r = of_some (λ k. nat_eq r k) (found_for request)
+names request r = of_some (λ k. r == k) (found_for request)
 
 -- a write writes the rows that it names
 abbrev pub writes_row : Request → ℕ → Bool

@@ -5,7 +5,7 @@ ghost use Rattle.table.specs.Held.{rows_of};
 ghost use Rattle.chain.specs.declared.access.Access.TheVariants.{Write};
 ghost use Rattle.chain.specs.Items.{plain_item, row_of};
 ghost use Rattle.chain.specs.Reader.{chain_of, checked};
-ghost use Rattle.promises.specs.Replies.{feeds as allFeeds, first_on, first_refusal, overdrawn};
+ghost use Rattle.promises.specs.Replies.{feeds as all_feeds, first_on, first_refusal, overdrawn};
 ghost use Rattle.promises.specs.Stored.{values_in};
 ghost use Rattle.writing.specs.Setups.{setup_of};
 ghost use Rattle.writing.specs.Numbers.{lay_number, lay_numbers, over_at};
@@ -109,7 +109,7 @@ fn check_numbers<'a>(
     message: &'a [u8],
     numbers: &RowNumbers,
 ) -> Result<(), RackFault>
-    ensures { result ≡ checked (first_refusal (over_at (setup_of table.now) numbers.now (chain_of (Write true) (rows_of table.now) message.now).items) allFeeds) }
+    ensures { result ≡ checked (first_refusal (over_at (setup_of table.now) numbers.now (chain_of (Write true) (rows_of table.now) message.now).items) all_feeds) }
 {
     for feed in 1..=LAST_FEED {
         if let Some(fault) = refusal_of(table, message, numbers, feed) {

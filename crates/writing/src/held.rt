@@ -1,7 +1,7 @@
 // The values that a store holds, as numbers.
 ghost use Rattle.std.specs.Prelude.{◌≡◌, ℕ, ◌<◌, length, slice_index};
 ghost use Rattle.table.specs.Held.{rows_of};
-ghost use Rattle.promises.specs.Replies.{numbers as numbersIn, unlocked};
+ghost use Rattle.promises.specs.Replies.{numbers as numbers_in, unlocked};
 ghost use Rattle.promises.specs.Stored.{values_in};
 
 use number::Number;
@@ -30,7 +30,7 @@ pub(crate) fn is_unlocked<S: Store>(store: &S) -> bool
 
 /// What each row counts in a draw at the values that are held.
 pub(crate) fn held_numbers<S: Store>(table: &Table, store: &S) -> RowNumbers
-    ensures { (k : ℕ) → k < length (rows_of table.now) → slice_index result k ≡ numbersIn (values_in (S.Store.held store.now)) k }
+    ensures { (k : ℕ) → k < length (rows_of table.now) → slice_index result k ≡ numbers_in (values_in (S.Store.held store.now)) k }
 {
     let mut numbers = [0; MAX_ROWS];
     for row in 0..table.len() {

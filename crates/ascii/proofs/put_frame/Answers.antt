@@ -1,5 +1,5 @@
 use Rattle.std.proofs.Common.{◌+◌, length, arith}
-use Rattle.ascii.specs.Digits.{frame_laid, length-framed}
+use Rattle.ascii.proofs.Digits.{frame_laid, length-framed}
 use Rattle.ascii.proofs.put_frame.Goals as goal
 
 pub returns : goal.returns

@@ -3,7 +3,7 @@ use Rattle.std.proofs.lemmas.List.{take_all}
 use Rattle.line.specs.Calls.{overlaid}
 use Rattle.line.proofs.Laying.{overlaid-none}
 use Rattle.ascii.specs.Hex.{hexes}
-use Rattle.ascii.specs.Digits.{hexes_more}
+use Rattle.ascii.proofs.Digits.{hexes_more}
 use Rattle.ascii.proofs.put_hex.Goals as goal
 
 pub loop-b-init : goal.loop-b-init

@@ -24,7 +24,7 @@ use line::refusal::{Flaw, ReadRefusal};
 use promises::outcome::{AnswerRefusal, Answered, ErrorReply};
 use store::Store;
 
-// The mark and the message of a frame, whose data bytes then stand in `data`.
+// The mark and the message of a frame, whose data bytes then stand in `space`.
 fn read_frame<F: Framing>(
     framing: &F,
     frame: &[u8],
