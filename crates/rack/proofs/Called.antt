@@ -64,6 +64,13 @@ module _ {Mark : Type 0} (R : Rule Mark) (s : Setup) (frame entry : List ℕ) (h
       (o ∙ ap (λ (q : Request). given call (reply_to s (values_in held) q)) (sym e))
       (eh ∙ ap (λ (q : Request). kept_in_store (kept_items s (values_in held) q) held) (sym e))
 
+  -- the answer has as many bytes as are told
+  pub counted : (a : Answered) (exit : List ℕ) → a.len ≡ length (frame_for R (R.reads frame) reply.message) →
+      exit ≡ starting_with (frame_for R (R.reads frame) reply.message) entry → a.len ≡ length (take a.len exit)
+  counted a exit el ex =
+      let f : List ℕ = frame_for R (R.reads frame) reply.message in
+      el ∙ ap length (sym (ap (take a.len) ex ∙ take_at f (drop (length f) entry) a.len (sym el)))
+
   -- bytes past the answer stay
   pub stays : (a : Answered) (exit : List ℕ) → a.len ≡ length (frame_for R (R.reads frame) reply.message) →
       exit ≡ starting_with (frame_for R (R.reads frame) reply.message) entry → exit ≡ starting_with (take a.len exit) entry

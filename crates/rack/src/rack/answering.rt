@@ -1,5 +1,5 @@
 // Answering a frame.
-ghost use Rattle.std.specs.Prelude.{◌≡◌, ℕ, ◌≤◌, List, length, is_some, Some, Ok, Err};
+ghost use Rattle.std.specs.Prelude.{◌≡◌, ℕ, ◌≤◌, List, length, is_some, IfOk, Some, Ok, Err};
 ghost use Rattle.line.specs.Calls.{placed, starting_with};
 ghost use Rattle.line.specs.Messages.{Framable, data_msg};
 ghost use Rattle.promises.specs.Replies.{reply_to};
@@ -141,6 +141,7 @@ impl<S: Store> Rack<S> {
         buffer: &mut [u8],
     ) -> Result<Answered, AnswerRefusal>
         ensures answered { CallAnswered (setup self.old.node.number self.old.table) (call_over (F.Framing.rule framing.now) frame.now buffer.old) (values_in (S.Store.held self.old.store)) (outcome_of result buffer.new) (values_in (S.Store.held self.new.store)) }
+        ensures len { IfOk result (λ a. a.len ≡ length (outcome_of result buffer.new).answer) }
         ensures after { buffer.new ≡ starting_with (outcome_of result buffer.new).answer buffer.old }
         ensures same { (self.new.node ≡ self.old.node) × (self.new.table ≡ self.old.table) }
         ensures promises { Promises (setup self.old.node.number self.old.table) }
