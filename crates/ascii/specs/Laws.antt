@@ -8,7 +8,7 @@ use Rattle.line.specs.declared.refusal.Flaw.{Flaw}
 use Rattle.line.specs.declared.refusal.Flaw.TheVariants.{NotAFrame}
 use Rattle.line.specs.Messages.{Msg, data_msg, error_msg, Bytes, Framable, OfBytes}
 use Rattle.line.specs.Framings.{Laws}
-use Rattle.line.proofs.Laying.{last-two}
+use Rattle.line.proofs.Ends.{last-two}
 use Rattle.ascii.specs.Hex.{digit, hexes, value, paired, spelled}
 use Rattle.ascii.specs.Frames.{counted, encode, message, opened, delimited, inner, digits_opened, decode, ascii}
 use Rattle.ascii.specs.Digits.{length-hexes}
@@ -40,14 +40,14 @@ record Paired (x y : Option ℕ) (z : Option (List ℕ)) (p : List ℕ) : Type 0
   is_p : p ≡ (16 * h + l) ∷ q
 
 paired_of : (x y : Option ℕ) (z : Option (List ℕ)) (p : List ℕ) → paired x y z ≡ Some p → Paired x y z p
-paired_of None y z p e = let w : ◌≡◌ {A = ℕ} 0 1 = cc in absurd (omega arith)
-paired_of (Some h) None z p e = let w : ◌≡◌ {A = ℕ} 0 1 = cc in absurd (omega arith)
-paired_of (Some h) (Some l) None p e = let w : ◌≡◌ {A = ℕ} 0 1 = cc in absurd (omega arith)
+paired_of None y z p e = cc
+paired_of (Some h) None z p e = cc
+paired_of (Some h) (Some l) None p e = cc
 paired_of (Some h) (Some l) (Some q) p e = record { h = h; l = l; q = q; is_x = refl; is_y = refl; is_z = refl; is_p = cc }
 
 pub hexes-spelled : (r p : List ℕ) → spelled r ≡ Some p → (hexes p ≡ r) × Bytes p
 hexes-spelled [] p e = let w : [] ≡ p = cc in subst (λ (z : List ℕ). (hexes z ≡ []) × Bytes z) w (refl, tt)
-hexes-spelled (a ∷ []) p e = let w : ◌≡◌ {A = ℕ} 0 1 = cc in absurd (omega arith)
+hexes-spelled (a ∷ []) p e = cc
 hexes-spelled (a ∷ b ∷ r) p e =
     let f = paired_of (value a) (value b) (spelled r) p e in
     let high = digit-value a f.h f.is_x in
@@ -103,14 +103,13 @@ inner_of f d e =
           simp (sym g', sym ends.1, sym ends.2, sym ends.3) (apart f ends.0)
       | inr t ↦
           let g : ◌≡◌ {A = Option (List ℕ)} None (Some d) = sym (cond-false (delimited f) _ _ t) ∙ e in
-          let w : ◌≡◌ {A = ℕ} 0 1 = cc in
-          absurd (omega arith)
+          cc
     ]
 
 -- Lengths and messages
 
 message_of_lem : (q : List ℕ) (s : Msg) → message q ≡ Ok (tt, s) → (q ≡ counted s) × Framable s
-message_of_lem [] s e = let w : ◌≡◌ {A = ℕ} 0 1 = cc in absurd (omega arith)
+message_of_lem [] s e = cc
 message_of_lem (x ∷ []) s e =
     let f : ◌≡◌ {A = Unit {0} × Msg} (tt, error_msg x) (tt, s) = cc in
     let g : error_msg x ≡ s = ap (λ (z : Unit {0} × Msg). z.1) f in
@@ -119,8 +118,7 @@ message_of_lem (x ∷ y ∷ r) s e =
     elim (cases_Bool (nat_lt 64 (length (y ∷ r)))) [
       | inl t ↦
           let f : ◌≡◌ {A = Result (Unit {0} × Msg) Flaw} (Err NotAFrame) (Ok (tt, s)) = sym (cond-true _ _ _ t) ∙ e in
-          let w : ◌≡◌ {A = ℕ} 0 1 = cc in
-          absurd (omega arith)
+          cc
       | inr t ↦
           let f : ◌≡◌ {A = Result (Unit {0} × Msg) Flaw} (Ok (tt, data_msg x (y ∷ r))) (Ok (tt, s)) = sym (cond-false _ _ _ t) ∙ e in
           let f' : ◌≡◌ {A = Unit {0} × Msg} (tt, data_msg x (y ∷ r)) (tt, s) = cc in
@@ -130,8 +128,8 @@ message_of_lem (x ∷ y ∷ r) s e =
     ]
 
 opened_of : (o : Option (List ℕ)) (s : Msg) → opened o ≡ Ok (tt, s) → (o ≡ Some (length (counted s) ∷ counted s)) × Framable s
-opened_of None s e = let w : ◌≡◌ {A = ℕ} 0 1 = cc in absurd (omega arith)
-opened_of (Some []) s e = let w : ◌≡◌ {A = ℕ} 0 1 = cc in absurd (omega arith)
+opened_of None s e = cc
+opened_of (Some []) s e = cc
 opened_of (Some (l ∷ q)) s e =
     elim (cases_Bool (l == length q)) [
       | inl t ↦
@@ -140,8 +138,7 @@ opened_of (Some (l ∷ q)) s e =
           (simp (i, f.0), f.1)
       | inr t ↦
           let f : ◌≡◌ {A = Result (Unit {0} × Msg) Flaw} (Err NotAFrame) (Ok (tt, s)) = sym (cond-false _ _ _ t) ∙ e in
-          let w : ◌≡◌ {A = ℕ} 0 1 = cc in
-          absurd (omega arith)
+          cc
     ]
 
 of_bytes : (s : Msg) → Bytes (counted s) → OfBytes s
@@ -155,7 +152,7 @@ record Decoded (f : List ℕ) (s : Msg) : Type 0 where
   bytes : OfBytes s
 
 digits_of : (o : Option (List ℕ)) (f : List ℕ) (s : Msg) → inner f ≡ o → digits_opened o ≡ Ok (tt, s) → Decoded f s
-digits_of None f s i e = let w : ◌≡◌ {A = ℕ} 0 1 = cc in absurd (omega arith)
+digits_of None f s i e = cc
 digits_of (Some d) f s i e =
     let g = opened_of (spelled d) s e in
     let u = hexes-spelled d (length (counted s) ∷ counted s) g.0 in
@@ -195,5 +192,5 @@ ascii_laws =
       reads_framable = λ _ s f e. (decode_of f s e).framable;
       reads_bytes = λ _ s f _ e. (decode_of f s e).bytes;
       writes_short = λ _ s h. length-encode s h;
-      empty_unread = λ _ s e. let w : ◌≡◌ {A = ℕ} 0 1 = cc in omega arith;
+      empty_unread = λ _ s e. cc;
     }

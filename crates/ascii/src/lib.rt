@@ -7,16 +7,18 @@
 //! the node and the data (2 to 65), or the code (1). A frame carries no mark.
 #![tactic(auto)]
 
-ghost use Rattle.std.specs.Prelude.{◌≡◌, ◌+◌, ◌*◌, ◌/◌, ◌%◌, ◌<◌, ◌≤◌, ◌∷◌, length, take, IfSome};
+ghost use Rattle.std.specs.Prelude.{◌≡◌, ◌+◌, ◌*◌, ◌/◌, ◌%◌, ◌<◌, ◌≤◌, ◌∷◌, ◌++◌, length, IfSome, Some};
 ghost use Rattle.std.specs.Option.{option_map};
-ghost use Rattle.line.specs.Calls.{overlaid, starting_with};
-ghost use Rattle.ascii.specs.Frames.{ascii, framed, inner};
+ghost use Rattle.line.specs.Calls.{buffer_of, told_of};
+ghost use Rattle.ascii.specs.Frames.{ascii, framed, inner, opened};
 ghost use Rattle.ascii.specs.Hex.{digit, hexes, spelled, value};
 ghost use Rattle.ascii.specs.Laws.{ascii_laws};
 
+use arrayvec::ArrayVec;
+use line::framable::Framable;
 use line::framing::{Framing, MAX_FRAME};
 use line::message::{MAX_DATA, Message, Unpacked};
-use line::refusal::{Flaw, ReadRefusal, WriteRefusal};
+use line::refusal::Flaw;
 
 /// The framing in hex digits between a colon and a line end.
 #[derive(Clone, Copy)]
@@ -26,6 +28,7 @@ pub struct Ascii;
 const MAX_INNER: usize = 66;
 
 /// The capital hex digit of a number below 16.
+// Not by the crate `hex`: into a slice it writes small digits, and it reads both.
 fn hex_digit(v: u8) -> u8
     requires { v < 16 }
     ensures { result ≡ digit v }
@@ -52,72 +55,72 @@ fn digit_value(c: u8) -> Option<u8>
     }
 }
 
-/// Writes each of `bytes` as two digits into `frame` from `start` on, and tells where they end.
-fn put_hex(frame: &mut [u8], start: usize, bytes: &[u8]) -> usize
-    requires { start + 2 * length bytes.now ≤ length frame.old }
-    ensures end { result ≡ start + 2 * length bytes.now }
-    ensures laid { frame.new ≡ overlaid frame.old start (hexes bytes.now) }
+/// Writes each of `bytes` as two digits behind what `frame` holds.
+fn put_hex(frame: &mut ArrayVec<u8, MAX_FRAME>, bytes: &[u8])
+    requires { length frame.old.items + 2 * length bytes.now ≤ 138 }
+    ensures long { length frame.new.items ≡ length frame.old.items + 2 * length bytes.now }
+    ensures laid { frame.new.items ≡ frame.old.items ++ hexes bytes.now }
 {
-    let mut end = start;
     for b in bytes {
         let (high, low) = hex_pair(*b);
-        frame[end] = high;
-        frame[end + 1] = low;
-        end += 2;
+        frame.push(high);
+        frame.push(low);
     }
-    end
 }
 
-/// Writes the frame whose length counts `first` and `rest`, and tells its own length.
-fn put_frame(frame: &mut [u8], first: u8, rest: &[u8]) -> usize
-    requires { (length rest.now ≤ 64) × (138 ≤ length frame.old) }
-    ensures end { result ≡ length (framed (first ∷ rest.now)) }
-    ensures laid { frame.new ≡ starting_with (framed (first ∷ rest.now)) frame.old }
+/// The frame whose length counts `first` and `rest`.
+fn put_frame(first: u8, rest: &[u8]) -> ArrayVec<u8, MAX_FRAME>
+    requires { length rest.now ≤ 64 }
+    ensures { result.items ≡ framed (first ∷ rest.now) }
 {
-    frame[0] = b':';
-    let start = put_hex(frame, 1, &[rest.len() as u8 + 1, first]);
-    let end = put_hex(frame, start, rest);
-    frame[end] = b'\r';
-    frame[end + 1] = b'\n';
-    end + 2
+    let mut frame = ArrayVec::new();
+    frame.push(b':');
+    put_hex(&mut frame, &[rest.len() as u8 + 1, first]);
+    put_hex(&mut frame, rest);
+    frame.push(b'\r');
+    frame.push(b'\n');
+    frame
 }
 
-/// Puts the bytes that pairs of `digits` spell at the start of `bytes`, and tells how many they are; nothing where `digits` are not such pairs.
-fn get_hex(digits: &[u8], bytes: &mut [u8]) -> Option<usize>
-    requires { length digits.now ≤ 2 * length bytes.old }
-    ensures spells { option_map (λ n. take n bytes.new) result ≡ spelled digits.now }
-    ensures count { IfSome result (λ n. 2 * n ≡ length digits.now) }
+/// The bytes that pairs of `digits` spell; nothing where `digits` are not such pairs.
+fn get_hex(digits: &[u8]) -> Option<ArrayVec<u8, MAX_INNER>>
+    requires { length digits.now ≤ 132 }
+    ensures { option_map (λ bytes. bytes.items) result ≡ spelled digits.now }
 {
-    if digits.len() % 2 != 0 {
-        return None;
+    let mut bytes = ArrayVec::new();
+    let mut rest = digits;
+    while let [high, low, tail @ ..] = rest {
+        bytes.push(16 * digit_value(*high)? + digit_value(*low)?);
+        rest = tail;
     }
-    let count = digits.len() / 2;
-    for n in 0..count {
-        let high = digit_value(digits[2 * n])?;
-        let low = digit_value(digits[2 * n + 1])?;
-        bytes[n] = 16 * high + low;
-    }
-    Some(count)
+    rest.is_empty().then_some(bytes)
 }
 
 /// The digits between the start and the end of a frame.
 fn inner_digits(frame: &[u8]) -> Option<&[u8]>
     ensures { option_map (λ d. d.now) result ≡ inner frame.now }
 {
-    if frame.len() < 3 {
-        return None;
+    match frame {
+        [b':', digits @ .., b'\r', b'\n'] => Some(digits),
+        _ => None,
     }
-    let end = frame.len() - 2;
-    if frame[0] != b':' {
-        return None;
+}
+
+/// Reads what a frame spells: tells its message, and puts the data bytes at the start of `buffer`.
+fn open_content(content: &[u8], buffer: &mut [u8; MAX_DATA]) -> Result<((), Unpacked), Flaw>
+    ensures answer { result ≡ told_of (opened (Some content.now)) }
+    ensures after { buffer.new ≡ buffer_of (opened (Some content.now)) buffer.old }
+{
+    match content {
+        [1, code] => Ok(((), Unpacked::Error { code: *code })),
+        [len, node, data @ ..]
+            if usize::from(*len) == 1 + data.len() && (1..=MAX_DATA).contains(&data.len()) => {
+            let (node, len) = (*node, data.len());
+            buffer[..len].copy_from_slice(data);
+            Ok(((), Unpacked::Data { node, len }))
+        }
+        _ => Err(Flaw::NotAFrame),
     }
-    if frame[end] != b'\r' {
-        return None;
-    }
-    if frame[end + 1] != b'\n' {
-        return None;
-    }
-    Some(&frame[1..end])
 }
 
 impl Framing for Ascii {
@@ -127,59 +130,19 @@ impl Framing for Ascii {
 
     ghost lawful = { λ _. ascii_laws };
 
-    fn read(&self, frame: &[u8], buffer: &mut [u8]) -> Result<((), Unpacked), ReadRefusal> {
-        if buffer.len() < MAX_DATA {
-            return Err(ReadRefusal::ShortBuffer);
-        }
-        let Some(digits) = inner_digits(frame) else {
-            return Err(ReadRefusal::Unreadable(Flaw::NotAFrame));
-        };
+    fn decode(&self, frame: &[u8], buffer: &mut [u8; MAX_DATA]) -> Result<((), Unpacked), Flaw> {
+        let digits = inner_digits(frame).ok_or(Flaw::NotAFrame)?;
         if digits.len() > 2 * MAX_INNER {
-            return Err(ReadRefusal::Unreadable(Flaw::NotAFrame));
+            return Err(Flaw::NotAFrame);
         }
-        let mut bytes = [0u8; MAX_INNER];
-        let Some(n) = get_hex(digits, &mut bytes) else {
-            return Err(ReadRefusal::Unreadable(Flaw::NotAFrame));
-        };
-        if n < 2 {
-            return Err(ReadRefusal::Unreadable(Flaw::NotAFrame));
-        }
-        if bytes[0] as usize != n - 1 {
-            return Err(ReadRefusal::Unreadable(Flaw::NotAFrame));
-        }
-        if n == 2 {
-            return Ok(((), Unpacked::Error { code: bytes[1] }));
-        }
-        buffer[0..n - 2].copy_from_slice(&bytes[2..n]);
-        Ok((
-            (),
-            Unpacked::Data {
-                node: bytes[1],
-                len: n - 2,
-            },
-        ))
+        let bytes = get_hex(digits).ok_or(Flaw::NotAFrame)?;
+        open_content(bytes.as_slice(), buffer)
     }
 
-    fn write(
-        &self,
-        _mark: (),
-        message: Message<'_>,
-        frame: &mut [u8],
-    ) -> Result<usize, WriteRefusal> {
-        if frame.len() < MAX_FRAME {
-            return Err(WriteRefusal::ShortBuffer);
-        }
-        match message {
-            Message::Data { node, bytes } => {
-                if bytes.len() == 0 {
-                    return Err(WriteRefusal::DataLength);
-                }
-                if bytes.len() > MAX_DATA {
-                    return Err(WriteRefusal::DataLength);
-                }
-                Ok(put_frame(frame, node, bytes))
-            }
-            Message::Error { code } => Ok(put_frame(frame, code, &[])),
+    fn encode(&self, _mark: (), message: Framable<'_>) -> ArrayVec<u8, MAX_FRAME> {
+        match message.message() {
+            Message::Data { node, bytes } => put_frame(node, bytes),
+            Message::Error { code } => put_frame(code, &[]),
         }
     }
 
@@ -198,23 +161,53 @@ mod tests {
     use std::process::Abort;
     use std::test::Fail;
 
+    // What every buffer holds before a call.
+    const BLANK: u8 = 0xEE;
+
+    // Whether `buffer` starts with `written` and is blank past it. Each framing's tests have it: between crates only what is public is shared.
+    fn holds(buffer: &[u8], written: &[u8]) -> bool {
+        buffer
+            .strip_prefix(written)
+            .is_some_and(|rest| rest.iter().all(|b| *b == BLANK))
+    }
+
     // Reads a frame and writes what it says: the same frame. The bytes past the data stay.
     fn same_again(rt: &impl Abort, frame: &[u8], said: u8, data: &[u8]) -> Result<(), Fail> {
-        let mut buffer = [0xEE; 65];
+        let mut buffer = [BLANK; 65];
         let (_, unpacked) = Ascii.read(frame, &mut buffer)?;
         match unpacked {
             Unpacked::Data { node, len } => assert!(rt; node == said && len == data.len()),
-            Unpacked::Error { code } => assert!(rt; code == said && data.len() == 0),
+            Unpacked::Error { code } => assert!(rt; code == said && data.is_empty()),
         }
-        for (i, b) in buffer.iter().enumerate() {
-            assert_eq!(rt; *b, data.get(i).copied().unwrap_or(0xEE));
-        }
-        let mut again = [0xEE; 139];
+        assert!(rt; holds(&buffer, data));
+        let mut again = [BLANK; 139];
         let len = Ascii.write((), unpacked.message(&buffer), &mut again)?;
         assert_eq!(rt; len, frame.len());
-        for (i, b) in again.iter().enumerate() {
-            assert_eq!(rt; *b, frame.get(i).copied().unwrap_or(0xEE));
-        }
+        assert!(rt; holds(&again, frame));
+        Ok(())
+    }
+
+    #[test]
+    fn decoded_and_encoded(rt: HostRuntime) -> Result<(), Fail> {
+        let mut buffer = [BLANK; 64];
+        assert_eq!(rt;
+            Ascii.decode(b":028001\r", &mut buffer),
+            Err(Flaw::NotAFrame)
+        );
+        assert!(rt; holds(&buffer, b""));
+        assert_eq!(rt;
+            Ascii.decode(b":028001\r\n", &mut buffer),
+            Ok(((), Unpacked::Data { node: 0x80, len: 1 }))
+        );
+        assert!(rt; holds(&buffer, &[1]));
+        let message = Message::Data {
+            node: 0x80,
+            bytes: &[1],
+        };
+        let encoded = Ascii.encode((), Framable::new(message)?);
+        assert!(rt; holds(encoded.as_slice(), b":028001\r\n"));
+        let error = Ascii.encode((), Framable::new(Message::Error { code: 5 })?);
+        assert!(rt; holds(error.as_slice(), b":0105\r\n"));
         Ok(())
     }
 
@@ -255,10 +248,9 @@ mod tests {
             b":00\r\n",
         ];
         for piece in pieces {
-            let mut buffer = [0xEE; 64];
-            let r = Ascii.read(piece, &mut buffer);
-            assert!(rt; r.is_err());
-            assert!(rt; buffer == [0xEE; 64]);
+            let mut buffer = [BLANK; 64];
+            assert!(rt; Ascii.read(piece, &mut buffer).is_err());
+            assert!(rt; holds(&buffer, b""));
         }
         let mut long = [b'0'; 137];
         long[0] = b':';
@@ -267,40 +259,28 @@ mod tests {
         long[135] = b'\r';
         long[136] = b'\n';
         assert!(rt;
-            Ascii.read(&long, &mut [0xEE; 64]).is_err(),
+            Ascii.read(&long, &mut [BLANK; 64]).is_err(),
             "a length of 42"
         );
     }
 
     // A refused write tells its number and leaves the buffer as it was.
-    fn write_refused(
-        rt: &impl Abort,
-        bytes: &[u8],
-        frame: &mut [u8],
-        number: u8,
-    ) -> Result<(), Fail> {
+    fn write_refused(rt: &impl Abort, bytes: &[u8], frame: &mut [u8], number: u8) {
         let message = Message::Data { node: 3, bytes };
-        match Ascii.write((), message, frame) {
-            Ok(_) => return Err(Fail::new("written")),
-            Err(refusal) => assert_eq!(rt; refusal.number(), number),
-        }
-        for b in frame.iter() {
-            assert_eq!(rt; *b, 0xEE);
-        }
-        Ok(())
+        let written = Ascii.write((), message, frame);
+        assert_eq!(rt; written.map_err(|refusal| refusal.number()), Err(number));
+        assert!(rt; holds(frame, b""));
     }
 
     #[test]
-    fn refusals(rt: HostRuntime) -> Result<(), Fail> {
-        let mut buffer = [0xEE; 63];
-        match Ascii.read(b":0280\r\n", &mut buffer) {
-            Ok(_) => return Err(Fail::new("read")),
-            Err(refusal) => assert_eq!(rt; refusal.number(), 1),
-        }
-        assert!(rt; buffer == [0xEE; 63]);
-        write_refused(&rt, &[], &mut [0xEE; 137], 1)?;
-        write_refused(&rt, &[1], &mut [0xEE; 137], 1)?;
-        write_refused(&rt, &[], &mut [0xEE; 138], 9)?;
-        write_refused(&rt, &[1; 65], &mut [0xEE; 138], 9)
+    fn refusals(rt: HostRuntime) {
+        let mut buffer = [BLANK; 63];
+        let read = Ascii.read(b":0280\r\n", &mut buffer);
+        assert_eq!(rt; read.map_err(|refusal| refusal.number()), Err(1));
+        assert!(rt; holds(&buffer, b""));
+        write_refused(&rt, &[], &mut [BLANK; 137], 1);
+        write_refused(&rt, &[1], &mut [BLANK; 137], 1);
+        write_refused(&rt, &[], &mut [BLANK; 138], 9);
+        write_refused(&rt, &[1; 65], &mut [BLANK; 138], 9);
     }
 }

@@ -1,3 +1,3 @@
+mod Doubling
 mod Undoubling
-mod Laying
 mod Opening

@@ -1,53 +1,49 @@
 -- Undoing the doubling, byte by byte.
-use Rattle.std.proofs.Common.{◌≡◌, ℕ, suc, ◌+◌, ◌-◌, ◌<◌, ◌≤◌, List, [], ◌∷◌, ◌++◌, length, get_or, take, drop, set, Some, None, Option, sym, refl, ap, ◌∙◌, append_assoc, arith}
-use Rattle.std.proofs.lemmas.List.{take_all, take_more_set}
-use Rattle.std.proofs.lemmas.Bool.{eq-eqb, ne_eqb, cond-true, cond-false}
+use Rattle.std.proofs.Common.{◌≡◌, ℕ, suc, ◌-◌, ◌≤◌, true, ◌&&◌, eqb, List, [], ◌∷◌, ◌++◌, length, get_or, take, drop, nat_eq, Some, None, Option, sym, refl, ap, ◌∙◌, append_assoc, length-take, length-drop, arith}
+use Rattle.std.proofs.lemmas.List.{take_all}
+use Rattle.std.proofs.lemmas.Bool.{eq-eqb, ne_eqb, cond-true, and_parts}
+use Rattle.std.specs.Cmp.Lexicographic.{pointwise}
 use Rattle.std.specs.Option.{option_map}
 use Rattle.binary.specs.Doubling.{undoubled}
 use Rattle.binary.specs.DoublingLemmas.{undoubled-plain}
 
 -- what is undone, behind bytes that are there already
 abbrev pub behind : List ℕ → Option (List ℕ) → Option (List ℕ)
-behind pre o = option_map (λ p. pre ++ p) o
+behind bytes more = option_map (λ p. bytes ++ p) more
 
-behind_more : (pre : List ℕ) (b : ℕ) (o : Option (List ℕ)) → behind pre (option_map (λ p. b ∷ p) o) ≡ behind (pre ++ b ∷ []) o
-behind_more pre b None = refl
-behind_more pre b (Some p) = ap (λ (z : List ℕ). Some z) (sym (append_assoc pre (b ∷ []) p))
+behind_more : (bytes : List ℕ) (b : ℕ) (o : Option (List ℕ)) → behind bytes (option_map (λ p. b ∷ p) o) ≡ behind (bytes ++ b ∷ []) o
+behind_more bytes b None = refl
+behind_more bytes b (Some p) = ap (λ (z : List ℕ). Some z) (sym (append_assoc bytes (b ∷ []) p))
 
 -- what stands behind the first byte, as code cuts it
-abbrev pub behind_first : List ℕ → List ℕ
-behind_first r = take (length r - 1) (drop 1 r)
+abbrev pub others : List ℕ → List ℕ
+others r = take (length r - 1) (drop 1 r)
 
-pub with_first : (r tail : List ℕ) → 1 ≤ length r → tail ≡ behind_first r → r ≡ get_or r 0 0 ∷ tail
-with_first [] tail h e = absurd (omega arith)
-with_first (b ∷ r) tail h e =
-    let all : length r ≤ suc (length r) - 1 = omega arith in
-    ap (λ (z : List ℕ). b ∷ z) (sym (e ∙ take_all (suc (length r) - 1) r all))
+pub length-others : (r : List ℕ) → length (others r) ≡ length r - 1
+length-others r = simp (length-take, length-drop) (omega arith)
 
-pub with_two : (r tail : List ℕ) → 1 ≤ length r → 1 ≤ length (behind_first r) → tail ≡ behind_first (behind_first r)
-    → r ≡ get_or r 0 0 ∷ get_or (behind_first r) 0 0 ∷ tail
-with_two r tail h k e =
-    with_first r (behind_first r) h refl ∙ ap (λ (z : List ℕ). get_or r 0 0 ∷ z) (with_first (behind_first r) tail k e)
+undoubled_plain : (r next : List ℕ) → 1 ≤ length r → (get_or r 0 0 ≡ 16 → ⊥) → next ≡ others r
+    → undoubled r ≡ option_map (λ p. get_or r 0 0 ∷ p) (undoubled next)
+undoubled_plain [] next some n is = absurd (omega arith)
+undoubled_plain (b ∷ r) next some n is =
+    let all : next ≡ r = is ∙ take_all (suc (length r) - 1) r (omega arith) in
+    simp all (undoubled-plain b r (ne_eqb b 16 n))
 
-module _ (whole : Option (List ℕ)) (bytes r : List ℕ) (n : ℕ) (inv : whole ≡ behind (take n bytes) (undoubled r)) where
-  -- a 10 and another byte
-  pub lone : (b second : ℕ) (tail : List ℕ) → r ≡ b ∷ second ∷ tail → b ≡ 16 → (second ≡ 16 → ⊥) → None ≡ whole
-  lone b second tail e h k =
-      sym (inv
-      ∙ ap (λ (z : List ℕ). behind (take n bytes) (undoubled z)) e
-      ∙ ap (behind (take n bytes)) (cond-true _ _ _ (eq-eqb b 16 h) ∙ cond-false _ _ _ (ne_eqb second 16 k)))
+undoubled_twice : (r next : List ℕ) → get_or r 0 0 ≡ 16 → pointwise nat_eq (take 1 (others r)) (16 ∷ []) ≡ true → next ≡ drop 1 (others r)
+    → undoubled r ≡ option_map (λ p. get_or r 0 0 ∷ p) (undoubled next)
+undoubled_twice [] next h second is = absurd (omega arith)
+undoubled_twice (a ∷ []) next h second is = cc
+undoubled_twice (a ∷ b ∷ r) next h second is =
+    let all : take (suc (suc (length r)) - 1) (b ∷ r) ≡ b ∷ r = take_all _ _ (omega arith) in
+    let left : next ≡ r = is ∙ ap (drop 1) all in
+    let both : eqb b 16 && true ≡ true = rw all at second in
+    simp left (cond-true (eqb a 16) _ _ (eq-eqb a 16 h) ∙ cond-true (eqb b 16) _ _ (and_parts (eqb b 16) true both).0)
 
-  module _ (b : ℕ) (room : n < length bytes) where
-    one_more : (tail : List ℕ) → undoubled r ≡ option_map (λ p. b ∷ p) (undoubled tail)
-        → whole ≡ behind (take (n + 1) (set bytes n b)) (undoubled tail)
-    one_more tail e =
-        inv ∙ ap (behind (take n bytes)) e ∙ behind_more (take n bytes) b (undoubled tail)
-        ∙ ap (λ (z : List ℕ). behind z (undoubled tail)) (sym (take_more_set bytes n b room))
+-- one byte more, of what is left to undo
+module _ (text bytes r next : List ℕ) (inv : undoubled text ≡ behind bytes (undoubled r)) where
+  pub plain : 1 ≤ length r → (get_or r 0 0 ≡ 16 → ⊥) → next ≡ others r → undoubled text ≡ behind (bytes ++ get_or r 0 0 ∷ []) (undoubled next)
+  plain some n is = inv ∙ ap (behind bytes) (undoubled_plain r next some n is) ∙ behind_more bytes (get_or r 0 0) (undoubled next)
 
-    pub one_plain : (tail : List ℕ) → r ≡ b ∷ tail → (b ≡ 16 → ⊥) → whole ≡ behind (take (n + 1) (set bytes n b)) (undoubled tail)
-    one_plain tail e h = one_more tail (ap undoubled e ∙ undoubled-plain b tail (ne_eqb b 16 h))
-
-    pub one-doubled : (second : ℕ) (tail : List ℕ) → r ≡ b ∷ second ∷ tail → b ≡ 16 → second ≡ 16
-        → whole ≡ behind (take (n + 1) (set bytes n b)) (undoubled tail)
-    one-doubled second tail e h k =
-        one_more tail (ap undoubled e ∙ cond-true _ _ _ (eq-eqb b 16 h) ∙ cond-true _ _ _ (eq-eqb second 16 k))
+  pub twice : get_or r 0 0 ≡ 16 → pointwise nat_eq (take 1 (others r)) (16 ∷ []) ≡ true → next ≡ drop 1 (others r)
+      → undoubled text ≡ behind (bytes ++ get_or r 0 0 ∷ []) (undoubled next)
+  twice h second is = inv ∙ ap (behind bytes) (undoubled_twice r next h second is) ∙ behind_more bytes (get_or r 0 0) (undoubled next)

@@ -41,7 +41,7 @@ undoubled-doubled (x ∷ p) =
     ]
 
 never : {A : Type 0} (x : A) → ◌≡◌ {A = Option A} None (Some x) → ⊥
-never x e = let w : ◌≡◌ {A = ℕ} 0 1 = cc in omega arith
+never x e = cc
 
 mapped_of : (a : ℕ) (o : Option (List ℕ)) (p : List ℕ) → option_map (λ q. a ∷ q) o ≡ Some p → (q : List ℕ) × (o ≡ Some q) × (p ≡ a ∷ q)
 mapped_of a None p e = absurd (never p e)

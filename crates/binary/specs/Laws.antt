@@ -8,7 +8,7 @@ use Rattle.line.specs.declared.refusal.Flaw.{Flaw}
 use Rattle.line.specs.declared.refusal.Flaw.TheVariants.{NotAFrame}
 use Rattle.line.specs.Messages.{Msg, data_msg, error_msg, Bytes, Framable, OfBytes}
 use Rattle.line.specs.Framings.{Laws}
-use Rattle.line.proofs.Laying.{last-two}
+use Rattle.line.proofs.Ends.{last-two}
 use Rattle.binary.specs.declared.Mark.{Mark}
 use Rattle.binary.specs.Doubling.{doubled, undoubled}
 use Rattle.binary.specs.Frames.{content, framed, encode, error_of, data_of, opened, delimited, inner, inner_opened, decode, kept_mark, binary}
@@ -61,14 +61,13 @@ inner_of f d e =
           simp (g', ends.1, ends.2, ends.3, ends.4) at (apart f ends.0)
       | inr t ↦
           let g : ◌≡◌ {A = Option (List ℕ)} None (Some d) = sym (cond-false (delimited f) _ _ t) ∙ e in
-          let w : ◌≡◌ {A = ℕ} 0 1 = cc in
-          absurd (omega arith)
+          cc
     ]
 
 -- Lengths and messages
 
 no_frame : (m : Mark) (s : Msg) → ◌≡◌ {A = Result (Mark × Msg) Flaw} (Err NotAFrame) (Ok (m, s)) → ⊥
-no_frame m s e = let w : ◌≡◌ {A = ℕ} 0 1 = cc in omega arith
+no_frame m s e = cc
 
 -- What is read from `p` is a message that can be framed, and `p` is what its frame holds.
 record Held (p : List ℕ) (m : Mark) (s : Msg) : Type 0 where

@@ -7,16 +7,18 @@
 //! A frame's mark is the sequence number and, for an error message, the node.
 #![tactic(auto)]
 
-ghost use Rattle.std.specs.Prelude.{◌≡◌, ◌+◌, ◌*◌, ◌≤◌, ◌++◌, length, take, IfSome, Some};
+ghost use Rattle.std.specs.Prelude.{◌≡◌, ◌+◌, ◌*◌, ◌≤◌, ◌++◌, length, Some};
 ghost use Rattle.std.specs.Option.{option_map};
-ghost use Rattle.line.specs.Calls.{answer_of, buffer_of, overlaid, starting_with};
+ghost use Rattle.line.specs.Calls.{buffer_of, told_of};
 ghost use Rattle.binary.specs.Doubling.{doubled, undoubled};
-ghost use Rattle.binary.specs.Frames.{binary, decode, framed, inner, opened};
+ghost use Rattle.binary.specs.Frames.{binary, framed, inner, opened};
 ghost use Rattle.binary.specs.Laws.{binary_laws};
 
+use arrayvec::ArrayVec;
+use line::framable::Framable;
 use line::framing::{Framing, MAX_FRAME};
 use line::message::{MAX_DATA, Message, Unpacked};
-use line::refusal::{Flaw, ReadRefusal, WriteRefusal};
+use line::refusal::Flaw;
 
 /// The binary framing, which marks its frames with a sequence number.
 #[derive(Clone, Copy)]
@@ -41,132 +43,81 @@ const ETX: u8 = 0x03;
 /// No frame has more bytes between start and end: the sequence number, the node, the length and 64 data bytes, were each doubled.
 const MAX_INNER: usize = 134;
 
-/// Writes `bytes` with every 10 doubled into `frame` from `start` on, and tells where they end.
-fn put_doubled(frame: &mut [u8], start: usize, bytes: &[u8]) -> usize
-    requires { start + 2 * length bytes.now ≤ length frame.old }
-    ensures end { result ≡ start + length (doubled bytes.now) }
-    ensures room { result ≤ start + 2 * length bytes.now }
-    ensures laid { frame.new ≡ overlaid frame.old start (doubled bytes.now) }
+/// Writes `bytes` with every 10 doubled behind what `frame` holds.
+fn put_doubled(frame: &mut ArrayVec<u8, MAX_FRAME>, bytes: &[u8])
+    requires { length frame.old.items + 2 * length bytes.now ≤ 138 }
+    ensures long { length frame.new.items ≤ length frame.old.items + 2 * length bytes.now }
+    ensures laid { frame.new.items ≡ frame.old.items ++ doubled bytes.now }
 {
-    let mut end = start;
     for b in bytes {
-        frame[end] = *b;
-        end += 1;
+        frame.push(*b);
         if *b == DLE {
-            frame[end] = DLE;
-            end += 1;
+            frame.push(DLE);
         }
     }
-    end
 }
 
-/// Writes the frame that holds `head` and `rest`, and tells its length.
-fn put_frame(frame: &mut [u8], head: [u8; 3], rest: &[u8]) -> usize
-    requires { (length rest.now ≤ 64) × (138 ≤ length frame.old) }
-    ensures end { result ≡ length (framed (head ++ rest.now)) }
-    ensures laid { frame.new ≡ starting_with (framed (head ++ rest.now)) frame.old }
+/// The frame that holds `head` and `rest`.
+fn put_frame(head: [u8; 3], rest: &[u8]) -> ArrayVec<u8, MAX_FRAME>
+    requires { length rest.now ≤ 64 }
+    ensures { result.items ≡ framed (head ++ rest.now) }
 {
-    frame[0] = DLE;
-    frame[1] = STX;
-    let start = put_doubled(frame, 2, &head);
-    let end = put_doubled(frame, start, rest);
-    frame[end] = DLE;
-    frame[end + 1] = ETX;
-    end + 2
+    let mut frame = ArrayVec::new();
+    frame.push(DLE);
+    frame.push(STX);
+    put_doubled(&mut frame, &head);
+    put_doubled(&mut frame, rest);
+    frame.push(DLE);
+    frame.push(ETX);
+    frame
 }
 
-/// Undoes the doubling of `text`: puts its bytes at the start of `bytes`, and tells how many they are;
-/// nothing where a 10 has no second one behind it.
-fn get_undoubled(text: &[u8], bytes: &mut [u8]) -> Option<usize>
-    requires { length text.now ≤ length bytes.old }
-    ensures undoes { option_map (λ n. take n bytes.new) result ≡ undoubled text.now }
-    ensures count { IfSome result (λ n. n ≤ length bytes.new) }
+/// The bytes of `text` with the doubling undone; nothing where a 10 has no second one behind it.
+fn get_undoubled(text: &[u8]) -> Option<ArrayVec<u8, MAX_INNER>>
+    requires { length text.now ≤ 134 }
+    ensures { option_map (λ bytes. bytes.items) result ≡ undoubled text.now }
 {
-    let mut n = 0;
+    let mut bytes = ArrayVec::new();
     let mut rest = text;
-    while let [b, tail @ ..] = rest {
-        rest = tail;
-        if *b == DLE {
-            let [second, tail @ ..] = tail else {
-                return None;
-            };
-            if *second != DLE {
-                return None;
-            }
-            rest = tail;
-        }
-        bytes[n] = *b;
-        n += 1;
+    while let [b, others @ ..] = rest {
+        rest = if *b == DLE {
+            others.strip_prefix(&[DLE])?
+        } else {
+            others
+        };
+        bytes.push(*b);
     }
-    Some(n)
+    Some(bytes)
 }
 
 /// What stands between the start and the end of a frame.
 fn inner_bytes(frame: &[u8]) -> Option<&[u8]>
     ensures { option_map (λ d. d.now) result ≡ inner frame.now }
 {
-    if frame.len() < 4 {
-        return None;
+    match frame {
+        [DLE, STX, text @ .., DLE, ETX] => Some(text),
+        _ => None,
     }
-    let end = frame.len() - 2;
-    if frame[0] != DLE {
-        return None;
-    }
-    if frame[1] != STX {
-        return None;
-    }
-    if frame[end] != DLE {
-        return None;
-    }
-    if frame[end + 1] != ETX {
-        return None;
-    }
-    Some(&frame[2..end])
 }
 
 /// Reads what a frame holds: tells its mark and its message, and puts the data bytes at the start of `buffer`.
-fn open_content(content: &[u8], buffer: &mut [u8]) -> Result<(Mark, Unpacked), ReadRefusal>
-    requires { 64 ≤ length buffer.old }
-    ensures answer { result ≡ answer_of (opened (Some content.now)) }
+fn open_content(content: &[u8], buffer: &mut [u8; MAX_DATA]) -> Result<(Mark, Unpacked), Flaw>
+    ensures answer { result ≡ told_of (opened (Some content.now)) }
     ensures after { buffer.new ≡ buffer_of (opened (Some content.now)) buffer.old }
 {
-    let [sequence, node, len, rest @ ..] = content else {
-        return Err(ReadRefusal::Unreadable(Flaw::NotAFrame));
-    };
-    let (sequence, node, len) = (*sequence, *node, *len as usize);
-    if len == 0 {
-        let [code] = rest else {
-            return Err(ReadRefusal::Unreadable(Flaw::NotAFrame));
-        };
-        return Ok((Mark { sequence, node }, Unpacked::Error { code: *code }));
+    match content {
+        [sequence, node, 0, code] => {
+            let (sequence, node, code) = (*sequence, *node, *code);
+            Ok((Mark { sequence, node }, Unpacked::Error { code }))
+        }
+        [sequence, node, len, data @ ..]
+            if usize::from(*len) == data.len() && (1..=MAX_DATA).contains(&data.len()) => {
+            let (sequence, node, len) = (*sequence, *node, data.len());
+            buffer[..len].copy_from_slice(data);
+            Ok((Mark { sequence, node: 0 }, Unpacked::Data { node, len }))
+        }
+        _ => Err(Flaw::NotAFrame),
     }
-    if len != rest.len() {
-        return Err(ReadRefusal::Unreadable(Flaw::NotAFrame));
-    }
-    if len > MAX_DATA {
-        return Err(ReadRefusal::Unreadable(Flaw::NotAFrame));
-    }
-    buffer[0..len].copy_from_slice(rest);
-    Ok((Mark { sequence, node: 0 }, Unpacked::Data { node, len }))
-}
-
-/// Reads a frame: tells its mark and its message, and puts the data bytes at the start of `buffer`.
-fn open_frame(frame: &[u8], buffer: &mut [u8]) -> Result<(Mark, Unpacked), ReadRefusal>
-    requires { 64 ≤ length buffer.old }
-    ensures answer { result ≡ answer_of (decode frame.now) }
-    ensures after { buffer.new ≡ buffer_of (decode frame.now) buffer.old }
-{
-    let Some(text) = inner_bytes(frame) else {
-        return Err(ReadRefusal::Unreadable(Flaw::NotAFrame));
-    };
-    if text.len() > MAX_INNER {
-        return Err(ReadRefusal::Unreadable(Flaw::NotAFrame));
-    }
-    let mut bytes = [0u8; MAX_INNER];
-    let Some(n) = get_undoubled(text, &mut bytes) else {
-        return Err(ReadRefusal::Unreadable(Flaw::NotAFrame));
-    };
-    open_content(&bytes[0..n], buffer)
 }
 
 impl Framing for Binary {
@@ -176,41 +127,26 @@ impl Framing for Binary {
 
     ghost lawful = { λ _. binary_laws };
 
-    fn read(&self, frame: &[u8], buffer: &mut [u8]) -> Result<(Mark, Unpacked), ReadRefusal> {
-        if buffer.len() < MAX_DATA {
-            return Err(ReadRefusal::ShortBuffer);
+    fn decode(&self, frame: &[u8], buffer: &mut [u8; MAX_DATA]) -> Result<(Mark, Unpacked), Flaw> {
+        let text = inner_bytes(frame).ok_or(Flaw::NotAFrame)?;
+        if text.len() > MAX_INNER {
+            return Err(Flaw::NotAFrame);
         }
-        open_frame(frame, buffer)
+        let bytes = get_undoubled(text).ok_or(Flaw::NotAFrame)?;
+        open_content(bytes.as_slice(), buffer)
     }
 
-    fn write(
-        &self,
-        mark: Mark,
-        message: Message<'_>,
-        frame: &mut [u8],
-    ) -> Result<usize, WriteRefusal> {
-        if frame.len() < MAX_FRAME {
-            return Err(WriteRefusal::ShortBuffer);
-        }
-        match message {
+    fn encode(&self, mark: Mark, message: Framable<'_>) -> ArrayVec<u8, MAX_FRAME> {
+        match message.message() {
             Message::Data { node, bytes } => {
-                if bytes.len() == 0 {
-                    return Err(WriteRefusal::DataLength);
-                }
-                if bytes.len() > MAX_DATA {
-                    return Err(WriteRefusal::DataLength);
-                }
-                Ok(put_frame(frame, [mark.sequence, node, bytes.len() as u8], bytes))
+                put_frame([mark.sequence, node, bytes.len() as u8], bytes)
             }
-            Message::Error { code } => Ok(put_frame(frame, [mark.sequence, mark.node, 0], &[code])),
+            Message::Error { code } => put_frame([mark.sequence, mark.node, 0], &[code]),
         }
     }
 
     fn error_mark(&self, mark: Mark, node: u8) -> Mark {
-        Mark {
-            sequence: mark.sequence,
-            node,
-        }
+        Mark { node, ..mark }
     }
 
     fn unreadable_mark(&self) -> Option<Mark> {
@@ -221,38 +157,31 @@ impl Framing for Binary {
 #[cfg(test)]
 mod tests {
     use super::*;
+    use line::refusal::{ReadRefusal, WriteRefusal};
+    use std::test::Fail;
 
     // What every buffer holds before a call.
     const BLANK: u8 = 0xEE;
 
-    // Whether `buffer` starts with `written` and is blank past it.
+    // Whether `buffer` starts with `written` and is blank past it. Each framing's tests have it: between crates only what is public is shared.
     fn holds(buffer: &[u8], written: &[u8]) -> bool {
-        for (i, b) in buffer.iter().enumerate() {
-            if *b != written.get(i).copied().unwrap_or(BLANK) {
-                return false;
-            }
-        }
-        written.len() <= buffer.len()
+        buffer
+            .strip_prefix(written)
+            .is_some_and(|rest| rest.iter().all(|b| *b == BLANK))
     }
 
     // Whether `frame` reads as this data message, and is written for it under any node of the mark.
     fn carries_data(frame: &[u8], sequence: u8, node: u8, bytes: &[u8]) -> bool {
         let mut buffer = [BLANK; 64];
-        let Ok((mark, Unpacked::Data { node: n, len })) = Binary.read(frame, &mut buffer) else {
-            return false;
+        let read = Binary.read(frame, &mut buffer);
+        let len = bytes.len();
+        let mark = Mark {
+            sequence,
+            node: 0x55,
         };
         let mut again = [BLANK; 138];
-        let wrote = Binary.write(
-            Mark {
-                sequence,
-                node: 0x55,
-            },
-            Message::Data { node, bytes },
-            &mut again,
-        );
-        mark == Mark { sequence, node: 0 }
-            && n == node
-            && len == bytes.len()
+        let wrote = Binary.write(mark, Message::Data { node, bytes }, &mut again);
+        read == Ok((Mark { sequence, node: 0 }, Unpacked::Data { node, len }))
             && holds(&buffer, bytes)
             && wrote == Ok(frame.len())
             && holds(&again, frame)
@@ -267,7 +196,7 @@ mod tests {
         let mut again = [BLANK; 138];
         let wrote = Binary.write(read, unpacked.message(&buffer), &mut again);
         read == mark
-            && matches!(unpacked, Unpacked::Error { code: c } if c == code)
+            && unpacked == Unpacked::Error { code }
             && holds(&buffer, b"")
             && wrote == Ok(frame.len())
             && holds(&again, frame)
@@ -275,7 +204,7 @@ mod tests {
 
     // Whether reading `frame` is refused and leaves the buffer as it was.
     fn unread(frame: &[u8], buffer: &mut [u8], refusal: ReadRefusal) -> bool {
-        matches!(Binary.read(frame, buffer), Err(r) if r == refusal) && holds(buffer, b"")
+        Binary.read(frame, buffer) == Err(refusal) && holds(buffer, b"")
     }
 
     // Whether writing a data message is refused and leaves the frame as it was.
@@ -286,6 +215,33 @@ mod tests {
         };
         Binary.write(mark, Message::Data { node: 0x80, bytes }, frame) == Err(refusal)
             && holds(frame, b"")
+    }
+
+    #[test]
+    fn decoded_and_encoded(rt: HostRuntime) -> Result<(), Fail> {
+        let mark = Mark {
+            sequence: 0x01,
+            node: 0,
+        };
+        let frame = b"\x10\x02\x01\x80\x01\x04\x10\x03";
+        let mut buffer = [BLANK; 64];
+        assert_eq!(rt;
+            Binary.decode(b"\x10\x03", &mut buffer),
+            Err(Flaw::NotAFrame)
+        );
+        assert!(rt; holds(&buffer, b""));
+        assert_eq!(rt;
+            Binary.decode(frame, &mut buffer),
+            Ok((mark, Unpacked::Data { node: 0x80, len: 1 }))
+        );
+        assert!(rt; holds(&buffer, b"\x04"));
+        let message = Message::Data {
+            node: 0x80,
+            bytes: b"\x04",
+        };
+        let encoded = Binary.encode(mark, Framable::new(message)?);
+        assert!(rt; holds(encoded.as_slice(), frame));
+        Ok(())
     }
 
     #[test]

@@ -1,24 +1,12 @@
 -- What reading and writing answer where the buffer is long enough.
-use Rattle.std.proofs.Common.{◌≡◌, ℕ, ◌≤◌, false, List, ◌++◌, length, drop, Ok, Err, Result, sym, refl, ap, ◌∙◌, arith}
+use Rattle.std.proofs.Common.{◌≡◌, ℕ, ◌≤◌, List, length, drop, Ok, Err, Result, refl, ap, ◌∙◌, arith}
 use Rattle.std.proofs.lemmas.List.{take_at}
 use Rattle.std.proofs.lemmas.Bool.{le-ltb, cond-false}
 use Rattle.line.specs.declared.message.Unpacked.{Unpacked}
 use Rattle.line.specs.declared.refusal.Flaw.{Flaw}
 use Rattle.line.specs.Messages.{Msg, data_msg, error_msg}
 use Rattle.line.specs.Framings.{Rule}
-use Rattle.line.specs.Calls.{answer_of, buffer_of, data_bytes, placed, read_answer, read_buffer, starting_with, told, wrong_length, write_answer, write_buffer}
-
-pub read_by : {Mark : Type 0} (R : Rule Mark) (frame buffer : List ℕ) (o : Result (Mark × Msg) Flaw) → 64 ≤ length buffer → R.reads frame ≡ o
-    → (answer_of o ≡ read_answer R frame buffer) × (buffer_of o buffer ≡ read_buffer R frame buffer)
-read_by R frame buffer o h e =
-    let f = le-ltb (length buffer) 64 h in (
-      sym (cond-false _ _ _ f ∙ ap answer_of e),
-      sym (cond-false _ _ _ f ∙ ap (λ (z : Result (_ × Msg) Flaw). buffer_of z buffer) e),
-    )
-
--- bytes that were copied to the start of a buffer
-pub read_start : (bytes copied buffer : List ℕ) (k : ℕ) → copied ≡ bytes → k ≡ length bytes → copied ++ drop k buffer ≡ starting_with bytes buffer
-read_start bytes copied buffer k e l = simp (e, l)
+use Rattle.line.specs.Calls.{answer_of, buffer_of, data_bytes, placed, read_answer, read_buffer, starting_with, told}
 
 -- what is told of a message, with its data bytes in the buffer, is that message
 placed-told : (s : Msg) (buffer : List ℕ) → placed (told s) (starting_with (data_bytes s) buffer) ≡ s
@@ -42,13 +30,3 @@ pub read_said : {Mark : Type 0} (R : Rule Mark) (frame buffer after : List ℕ) 
 read_said R frame buffer after m u h a b =
     let f = le-ltb (length buffer) 64 h in
     told_of (R.reads frame) m u buffer after (a ∙ cond-false _ _ _ f) (b ∙ cond-false _ _ _ f)
-
-pub write_by : {Mark : Type 0} (R : Rule Mark) (m : Mark) (s t : Msg) (k : ℕ) (buffer buffer' : List ℕ) → s ≡ t → 138 ≤ length buffer
-    → wrong_length t ≡ false → k ≡ length (R.writes m t) → buffer' ≡ starting_with (R.writes m t) buffer
-    → (Ok k ≡ write_answer R m s buffer) × (buffer' ≡ write_buffer R m s buffer)
-write_by R m s t k buffer buffer' e h b ek eb =
-    let f = le-ltb (length buffer) 138 h in
-    let b' : wrong_length s ≡ false = ap wrong_length e ∙ b in (
-      ap (λ (n : ℕ). Ok n) (ek ∙ ap (λ (z : Msg). length (R.writes m z)) (sym e)) ∙ sym (cond-false _ _ _ f ∙ cond-false _ _ _ b'),
-      eb ∙ ap (λ (z : Msg). starting_with (R.writes m z) buffer) (sym e) ∙ sym (cond-false _ _ _ f ∙ cond-false _ _ _ b'),
-    )

@@ -45,6 +45,11 @@ wrong_length (data_msg node bytes) = length bytes == 0 || nat_lt 64 (length byte
 wrong_length (error_msg code) = false
 
 module _ {Mark : Type 0} where
+  -- What is told of what a frame reads as.
+  abbrev pub told_of : Result (Mark × Msg) Flaw → Result (Mark × Unpacked) Flaw
+  told_of (Ok p) = Ok (p.0, told p.1)
+  told_of (Err flaw) = Err flaw
+
   abbrev pub answer_of : Result (Mark × Msg) Flaw → Result (Mark × Unpacked) ReadRefusal
   answer_of (Ok p) = Ok (p.0, told p.1)
   answer_of (Err flaw) = Err (read.Unreadable flaw)

@@ -3,3 +3,4 @@ pub mod Refusals
 pub mod Faults
 pub mod Framings
 pub mod Calls
+pub mod Framable

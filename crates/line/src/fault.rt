@@ -18,6 +18,7 @@ impl LineFault {
     pub fn code(self) -> u8
         ensures { result ≡ line_code self }
     {
+        // Matched, not cast: a case that holds a flaw has no number of its own.
         match self {
             LineFault::Unreadable(flaw) => flaw.number(),
             LineFault::OtherNode => 0x05,
@@ -29,8 +30,7 @@ impl LineFault {
         ensures { result ≡ line_place self }
     {
         match self {
-            LineFault::Unreadable(_) => 0,
-            LineFault::OtherNode => 0,
+            LineFault::Unreadable(_) | LineFault::OtherNode => 0,
         }
     }
 }

@@ -2,6 +2,7 @@
 #![tactic(auto)]
 
 pub mod fault;
+pub mod framable;
 pub mod framing;
 pub mod message;
 pub mod refusal;

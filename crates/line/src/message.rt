@@ -6,14 +6,16 @@ ghost use Rattle.line.specs.Calls.{placed, said};
 pub const MAX_DATA: usize = 64;
 
 /// A message as it is handed in to be framed: a data message (a node and its data bytes) or an error message (a code).
-#[derive(Clone, Copy)]
+#[derive(Clone, Copy, PartialEq, Eq, Debug)]
 pub enum Message<'a> {
     Data { node: u8, bytes: &'a [u8] },
     Error { code: u8 },
 }
 
 /// A message as it was read from a frame: its data bytes stand at the start of the buffer that was lent for them.
-#[derive(Clone, Copy)]
+// Not a `Message` that borrows the lent buffer: a buffer that goes into the result has no value after the call, so that no clause
+// could say what it holds. Nor `Message` over a type parameter: each signature names its form in a word.
+#[derive(Clone, Copy, PartialEq, Eq, Debug)]
 pub enum Unpacked {
     Data { node: u8, len: usize },
     Error { code: u8 },
@@ -27,7 +29,7 @@ impl Unpacked {
         match self {
             Unpacked::Data { node, len } => Message::Data {
                 node,
-                bytes: &buffer[0..len.min(buffer.len())],
+                bytes: &buffer[..len.min(buffer.len())],
             },
             Unpacked::Error { code } => Message::Error { code },
         }

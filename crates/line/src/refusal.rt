@@ -1,12 +1,13 @@
 //! Why reading or writing a frame is refused, and the number of each refusal.
 ghost use Rattle.std.specs.Prelude.{◌≡◌};
+ghost use Rattle.line.specs.declared.refusal.ReadRefusal.TheVariants.{Unreadable};
 ghost use Rattle.line.specs.Refusals.{flaw_number, read_number, write_number};
 
-/// What is wrong with bytes that cannot be read as a frame.
+/// What is wrong with bytes that cannot be read as a frame, by number.
 #[derive(Clone, Copy, PartialEq, Eq, Debug)]
 pub enum Flaw {
     /// The bytes are not a frame of this framing.
-    NotAFrame,
+    NotAFrame = 8,
 }
 
 /// Why a frame was not read.
@@ -18,13 +19,13 @@ pub enum ReadRefusal {
     Unreadable(Flaw),
 }
 
-/// Why a frame was not written.
+/// Why a frame was not written, by number.
 #[derive(Clone, Copy, PartialEq, Eq, Debug)]
 pub enum WriteRefusal {
     /// The buffer lent for the frame has fewer than 138 bytes.
-    ShortBuffer,
+    ShortBuffer = 1,
     /// A data message has no data byte, or more than 64.
-    DataLength,
+    DataLength = 9,
 }
 
 impl Flaw {
@@ -32,9 +33,7 @@ impl Flaw {
     pub fn number(self) -> u8
         ensures { result ≡ flaw_number self }
     {
-        match self {
-            Flaw::NotAFrame => 8,
-        }
+        self as u8
     }
 }
 
@@ -43,6 +42,7 @@ impl ReadRefusal {
     pub fn number(self) -> u8
         ensures { result ≡ read_number self }
     {
+        // Matched, not cast: a case that holds a flaw has no number of its own.
         match self {
             ReadRefusal::ShortBuffer => 1,
             ReadRefusal::Unreadable(flaw) => flaw.number(),
@@ -55,9 +55,38 @@ impl WriteRefusal {
     pub fn number(self) -> u8
         ensures { result ≡ write_number self }
     {
-        match self {
-            WriteRefusal::ShortBuffer => 1,
-            WriteRefusal::DataLength => 9,
-        }
+        self as u8
+    }
+}
+
+/// A frame with a flaw was not read.
+// Written out: a derived conversion has no contract.
+impl From<Flaw> for ReadRefusal {
+    ghost from_gives = { λ f r. r ≡ Unreadable f };
+
+    fn from(flaw: Flaw) -> Self {
+        Self::Unreadable(flaw)
+    }
+}
+
+#[cfg(test)]
+mod tests {
+    use super::*;
+
+    #[test]
+    fn numbers(rt: HostRuntime) {
+        assert_eq!(rt; Flaw::NotAFrame.number(), 8);
+        assert_eq!(rt; ReadRefusal::ShortBuffer.number(), 1);
+        assert_eq!(rt; ReadRefusal::from(Flaw::NotAFrame).number(), 8);
+        assert_eq!(rt; WriteRefusal::ShortBuffer.number(), 1);
+        assert_eq!(rt; WriteRefusal::DataLength.number(), 9);
+    }
+
+    #[test]
+    fn a_flaw_is_unreadable(rt: HostRuntime) {
+        assert_eq!(rt;
+            ReadRefusal::from(Flaw::NotAFrame),
+            ReadRefusal::Unreadable(Flaw::NotAFrame)
+        );
     }
 }
