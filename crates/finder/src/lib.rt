@@ -73,35 +73,32 @@ enum Inside {
     Wrong,
 }
 
-/// The leading `most` bytes, or all where there are fewer.
-fn leading(bytes: &[u8], most: usize) -> &[u8]
-    ensures { result.now ≡ take most bytes.now }
+/// The leading `MOST` bytes, or all where there are fewer.
+fn leading<const MOST: usize>(bytes: &[u8]) -> &[u8]
+    ensures { result.now ≡ take MOST bytes.now }
 {
-    &bytes[0..bytes.len().min(most)]
+    &bytes[..bytes.len().min(MOST)]
 }
 
-/// What an attempt comes to that has no end in its window of `most` bytes.
-fn without_end(bytes: &[u8], most: usize) -> Attempt
-    ensures { result ≡ unended most bytes.now }
+/// What an attempt comes to that has no end in its window of `MOST` bytes.
+fn without_end<const MOST: usize>(bytes: &[u8]) -> Attempt
+    ensures { result ≡ unended MOST bytes.now }
 {
-    if bytes.len() < most {
+    if bytes.len() < MOST {
         Attempt::Open
     } else {
         Attempt::Fails
     }
 }
 
-/// From 3A to the first 0A, within `most` bytes.
-fn try_ascii(bytes: &[u8], most: usize) -> Attempt
-    ensures { result ≡ ascii_attempt most bytes.now }
+/// From 3A to the first 0A, within `MOST` bytes.
+fn try_ascii<const MOST: usize>(bytes: &[u8]) -> Attempt
+    ensures { result ≡ ascii_attempt MOST bytes.now }
 {
-    let window = leading(bytes, most);
-    for (n, b) in window.iter().enumerate() {
-        if *b == LF {
-            return Attempt::Ends(n + 1);
-        }
+    match leading::<MOST>(bytes).iter().position(|b| *b == LF) {
+        Some(n) => Attempt::Ends(n + 1),
+        None => without_end::<MOST>(bytes),
     }
-    without_end(bytes, most)
 }
 
 /// What stands at the first of these bytes, inside a binary frame.
@@ -117,11 +114,12 @@ fn look_inside(bytes: &[u8]) -> Inside
     }
 }
 
-/// From 10 02 to the first 10 03, pair by pair, within `most` bytes. A pair counts only if both its bytes lie there.
-fn try_binary(bytes: &[u8], most: usize) -> Attempt
-    ensures { result ≡ binary_attempt most bytes.now }
+/// From 10 02 to the first 10 03, pair by pair, within `MOST` bytes. A pair counts only if both its bytes lie there.
+fn try_binary<const MOST: usize>(bytes: &[u8]) -> Attempt
+    ensures { result ≡ binary_attempt MOST bytes.now }
 {
-    let window = leading(bytes, most);
+    let window = leading::<MOST>(bytes);
+    // Counted by hand, because it is what is told: of the bytes left it would have to be reckoned back.
     let mut n = 2;
     while n < window.len() {
         match look_inside(&window[n..]) {
@@ -132,7 +130,7 @@ fn try_binary(bytes: &[u8], most: usize) -> Attempt
             Inside::Wrong => return Attempt::Fails,
         }
     }
-    without_end(bytes, most)
+    without_end::<MOST>(bytes)
 }
 
 /// What an attempt at the first of these bytes comes to.
@@ -140,14 +138,15 @@ fn try_here(bytes: &[u8]) -> Attempt
     ensures { result ≡ attempt bytes.now }
 {
     match bytes {
-        [COLON, ..] => try_ascii(bytes, ASCII_WINDOW),
+        [COLON, ..] => try_ascii::<ASCII_WINDOW>(bytes),
         [DLE] => Attempt::Open,
-        [DLE, STX, ..] => try_binary(bytes, BINARY_WINDOW),
+        [DLE, STX, ..] => try_binary::<BINARY_WINDOW>(bytes),
         _ => Attempt::Fails,
     }
 }
 
 /// The outcome, the place, and how many bytes the frame has: all that `find` promises but for the part itself.
+// Its clauses repeat those of `find`, which then follow without a proof; taking the part here would ask for one at each exit.
 fn locate(received: &[u8]) -> (Outcome, usize, usize)
     ensures outcome { result.0 ≡ (found received.now).0 }
     ensures place { result.1 ≡ (found received.now).1 }
@@ -158,6 +157,7 @@ fn locate(received: &[u8]) -> (Outcome, usize, usize)
     ensures few { (result.0 ≢ Outcome.Frame) → length received.now < result.1 + 138 }
     ensures laws { Laws }
 {
+    // Counted by hand, because it is what is told: of the bytes left it would have to be reckoned back.
     let mut place = 0;
     while place < received.len() {
         match try_here(&received[place..]) {
@@ -174,6 +174,7 @@ fn locate(received: &[u8]) -> (Outcome, usize, usize)
 ///
 /// With `More` the place is where the unfinished attempt starts, with `None` it is the number of bytes; the frame is
 /// then empty, and whoever waits for more bytes needs to keep only those from the place on.
+// By the project's rule one plain tuple, in no `Option` and no enum: a place is told in each case.
 pub fn find(received: &[u8]) -> (Outcome, usize, &[u8])
     ensures outcome { result.0 ≡ (found received.now).0 }
     ensures place { result.1 ≡ (found received.now).1 }

@@ -10,7 +10,7 @@ use Rattle.finder.specs.Search.{found}
 use Rattle.listing.specs.declared.frames.Entries.{Entries}
 use Rattle.listing.specs.declared.heard.Counts.{Counts}
 use Rattle.listing.specs.Hearing.{counted, none_yet}
-use Rattle.listing.specs.Words.{message_read, entry_line}
+use Rattle.listing.specs.Words.{message_read, entry_line, counts_words}
 
 -- What a frame says, by the framing that its first byte tells: 3A starts an ASCII frame, any other byte a binary one.
 abbrev pub said_in : List ℕ → Option Msg
@@ -49,8 +49,7 @@ counted_all c [] = c
 counted_all c (h ∷ hs) = counted_all (counted c h.1) hs
 
 abbrev pub counts_line : Counts → List ℕ
-counts_line c =
-    decimal c.messages ++ (codes " data, " ++ (decimal c.errors ++ (codes " error, " ++ (decimal c.unreadable ++ codes " unreadable\n"))))
+counts_line c = counts_words c ++ codes "\n"
 
 -- What is left behind the last frame: an attempt that more bytes may end, with its place, or nothing that starts one.
 abbrev pub left_line : ℕ → Bool → List ℕ

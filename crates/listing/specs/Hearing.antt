@@ -1,14 +1,14 @@
 -- What was heard of one frame, and how many frames of each sort were.
 use Rattle.std.specs.Prelude.{ℕ, ◌+◌, Some, None, Option}
 use Rattle.std.specs.Option.{option_map}
-use Rattle.line.specs.Calls.{placed}
+use Rattle.line.specs.Calls.{said}
 use Rattle.line.specs.Messages.{Msg, data_msg, error_msg}
 use Rattle.listing.specs.declared.heard.Heard.{Heard}
 use Rattle.listing.specs.declared.heard.Counts.{Counts}
 
--- The message, with its data bytes at the start of the buffer; none where the frame could not be read.
+-- The message, or none where the frame could not be read.
 abbrev pub message_of : Heard → Option Msg
-message_of h = option_map (λ u. placed u h.buffer) h.unpacked
+message_of h = option_map said h.0
 
 -- One more of its sort.
 abbrev pub counted : Counts → Option Msg → Counts

@@ -3,6 +3,7 @@ use Rattle.std.specs.Prelude.{ℕ, List, [], ◌∷◌, ◌++◌, take, Some, No
 use Rattle.line.specs.declared.refusal.Flaw.{Flaw}
 use Rattle.line.specs.Messages.{Msg, data_msg, error_msg}
 use Rattle.ascii.specs.Hex.{hexes}
+use Rattle.listing.specs.declared.heard.Counts.{Counts}
 
 -- The message that was read, whatever its mark, or none.
 abbrev pub message_read : {Mark : Type 0} → Result (Mark × Msg) Flaw → Option Msg
@@ -19,3 +20,7 @@ words (Some (data_msg node bytes)) =
 -- A frame's line: its number, the place of its first byte, and what it says.
 abbrev pub entry_line : ℕ → ℕ → Option Msg → List ℕ
 entry_line number place said = decimal number ++ (codes " at " ++ (decimal place ++ (codes ": " ++ (words said ++ codes "\n"))))
+
+abbrev pub counts_words : Counts → List ℕ
+counts_words c =
+    decimal c.messages ++ (codes " data, " ++ (decimal c.errors ++ (codes " error, " ++ (decimal c.unreadable ++ codes " unreadable"))))

@@ -1,15 +1,25 @@
 //! The frames in received bytes, listed.
-ghost use Rattle.std.specs.Prelude.{◌≡◌, ◌+◌, ◌≤◌, length, drop, IfOk, string_bytes};
-ghost use Rattle.finder.specs.Search.{found};
-ghost use Rattle.listing.specs.Frames.{Listed, NoneLeftOut, closing, counts_line, is_frame, is_more, left_line, listed, said_in};
+ghost use Rattle.std.specs.Prelude.{◌≡◌, IfOk, string_bytes};
+ghost use Rattle.listing.specs.Frames.{Listed, NoneLeftOut, listed, said_in};
 ghost use Rattle.listing.specs.Hearing.{message_of};
 ghost use Rattle.listing.specs.Written.{WrittenFound};
 
-use crate::heard::{Counts, Heard, entry, hear};
+use crate::heard::{Counts, Heard, hear};
 use ascii::Ascii;
 use binary::Binary;
 use finder::{Outcome, find};
+use line::message::MAX_DATA;
 use std::alloc::{AllocError, Global};
+
+/// What a frame says, in the framing that its first byte tells. Its data bytes are put in the buffer.
+fn hear_frame<'a>(frame: &[u8], buffer: &'a mut [u8; MAX_DATA]) -> Heard<'a>
+    ensures { message_of result ≡ said_in frame.now }
+{
+    match frame {
+        [b':', ..] => hear(&Ascii, frame, buffer),
+        _ => hear(&Binary, frame, buffer),
+    }
+}
 
 /// The lines of the frames, their counts, and the place behind the last of them.
 #[derive(Drop)]
@@ -19,43 +29,21 @@ struct Entries {
     end: usize,
 }
 
-/// What a frame says, in the framing that its first byte tells.
-fn hear_frame(frame: &[u8]) -> Heard
-    ensures { message_of result ≡ said_in frame.now }
-{
-    match frame {
-        [0x3A, ..] => hear(&Ascii, frame),
-        _ => hear(&Binary, frame),
+impl Entries {
+    /// The whole text: behind the lines of the frames a line that counts them, and one for what is left.
+    fn close(mut self, received: &[u8]) -> Result<String, AllocError>
+        requires { Listed received.now self }
+        ensures { IfOk result (λ t. string_bytes t ≡ listed received.now) }
+    {
+        writeln!(self.text, "{}", self.counts)?;
+        let (outcome, offset, _) = find(&received[self.end..]);
+        if outcome == Outcome::More {
+            writeln!(self.text, "more at {}", self.end + offset)?;
+        } else {
+            writeln!(self.text, "none left")?;
+        }
+        Ok(self.text)
     }
-}
-
-fn is_frame(outcome: Outcome) -> bool
-    ensures { result ≡ is_frame outcome }
-{
-    match outcome {
-        Outcome::Frame => true,
-        Outcome::More => false,
-        Outcome::None => false,
-    }
-}
-
-fn is_more(outcome: Outcome) -> bool
-    ensures { result ≡ is_more outcome }
-{
-    match outcome {
-        Outcome::Frame => false,
-        Outcome::More => true,
-        Outcome::None => false,
-    }
-}
-
-/// The first frame from a place on, by its offset from there.
-fn find_from(received: &[u8], place: usize) -> (Outcome, usize, &[u8])
-    requires { place ≤ length received.now }
-    ensures answer { (result.0, result.1, result.2.now) ≡ found (drop place received.now) }
-    ensures within { place + (result.1 + length result.2.now) ≤ length received.now }
-{
-    find(&received[place..])
 }
 
 /// A line for each frame in the received bytes.
@@ -63,58 +51,22 @@ fn list_frames(heap: Global, received: &[u8]) -> Result<Entries, AllocError>
     ensures { IfOk result (λ e. Listed received.now e) }
 {
     let mut text = String::new(heap);
-    let mut counts = Counts::new();
+    let mut counts = Counts::default();
+    // The place is counted: every line tells one.
     let mut end = 0;
-    for number in 0..received.len() {
-        let (outcome, offset, frame) = find_from(received, end);
-        if !is_frame(outcome) {
+    loop {
+        let (outcome, offset, frame) = find(&received[end..]);
+        if outcome != Outcome::Frame {
             return Ok(Entries { text, counts, end });
         }
-        let heard = hear_frame(frame);
-        let line = entry(heap, number + 1, end + offset, &heard)?;
-        text.push_str(line.as_str())?;
-        counts = counts.add(&heard);
-        end += offset + frame.len();
+        let mut buffer = [0; MAX_DATA];
+        let heard = hear_frame(frame, &mut buffer);
+        let number = counts.total() + 1;
+        let place = end + offset;
+        writeln!(text, "{number} at {place}: {heard}")?;
+        counts.add(heard);
+        end = place + frame.len();
     }
-    Ok(Entries { text, counts, end })
-}
-
-/// The line that counts the frames.
-fn counts_line(heap: Global, counts: Counts) -> Result<String, AllocError>
-    ensures { IfOk result (λ t. string_bytes t ≡ counts_line counts) }
-{
-    let messages = counts.messages;
-    let errors = counts.errors;
-    let unreadable = counts.unreadable;
-    format!(in heap; "{messages} data, {errors} error, {unreadable} unreadable\n")
-}
-
-/// The line that tells what is left behind the last frame.
-fn left_line(heap: Global, place: usize, more: bool) -> Result<String, AllocError>
-    ensures { IfOk result (λ t. string_bytes t ≡ left_line place more) }
-{
-    if more {
-        format!(in heap; "more at {place}\n")
-    } else {
-        String::from_str(heap, "none left\n")
-    }
-}
-
-/// The lines behind those of the frames: the counts, and what is left from the place `end` on.
-fn closing_lines(
-    heap: Global,
-    received: &[u8],
-    counts: Counts,
-    end: usize,
-) -> Result<String, AllocError>
-    requires { end ≤ length received.now }
-    ensures { IfOk result (λ t. string_bytes t ≡ closing counts end (found (drop end received.now))) }
-{
-    let (outcome, offset, _) = find_from(received, end);
-    let mut text = counts_line(heap, counts)?;
-    let left = left_line(heap, end + offset, is_more(outcome))?;
-    text.push_str(left.as_str())?;
-    Ok(text)
 }
 
 /// The listing of the received bytes: a line for each frame with its number, the place of its first byte and what it says,
@@ -122,14 +74,7 @@ fn closing_lines(
 pub fn listing(heap: Global, received: &[u8]) -> Result<String, AllocError>
     ensures { IfOk result (λ t. string_bytes t ≡ listed received.now) }
 {
-    let Entries {
-        mut text,
-        counts,
-        end,
-    } = list_frames(heap, received)?;
-    let lines = closing_lines(heap, received, counts, end)?;
-    text.push_str(lines.as_str())?;
-    Ok(text)
+    list_frames(heap, received)?.close(received)
 }
 
 /// No frame is left out of a listing.

@@ -1,98 +1,89 @@
-//! What is heard of one frame, its line in the listing, and the counts.
-ghost use Rattle.std.specs.Prelude.{◌≡◌, ◌^◌, ◌<◌, IfOk, string_bytes};
-ghost use Rattle.listing.specs.Hearing.{counted, message_of, none_yet, total};
-ghost use Rattle.listing.specs.Words.{entry_line, message_read, words};
+//! What is heard of one frame, and the counts.
+ghost use Rattle.std.specs.Prelude.{◌≡◌, ◌^◌, ◌<◌, Some};
+ghost use Rattle.listing.specs.Hearing.{counted, message_of, total};
+ghost use Rattle.listing.specs.Words.{counts_words, message_read, words};
 
-use crate::words::in_words;
+use crate::hex::Hex;
 use line::framing::Framing;
-use line::message::{MAX_DATA, Unpacked};
-use std::alloc::{AllocError, Global};
+use line::message::{MAX_DATA, Message};
+use std::fmt;
 
-/// What a frame was heard to say: a message, with its data bytes at the start of the buffer, or nothing where it cannot be read.
+/// What a frame was heard to say: a message, or nothing where it cannot be read.
 #[derive(Clone, Copy)]
-pub(crate) struct Heard {
-    pub(crate) unpacked: Option<Unpacked>,
-    pub(crate) buffer: [u8; MAX_DATA],
+pub(crate) struct Heard<'a>(pub(crate) Option<Message<'a>>);
+
+/// What a frame says in a framing, whatever its mark. Its data bytes are put in the buffer.
+pub(crate) fn hear<'a, F: Framing>(
+    framing: &F,
+    frame: &[u8],
+    buffer: &'a mut [u8; MAX_DATA],
+) -> Heard<'a>
+    ensures { message_of result ≡ message_read ((F.Framing.rule framing.now).reads frame.now) }
+{
+    match framing.decode(frame, buffer) {
+        Ok((_, unpacked)) => Heard(Some(unpacked.message(buffer))),
+        Err(_) => Heard(None),
+    }
+}
+
+impl fmt::Display for Heard<'_> {
+    ghost output = { λ h. Some (words (message_of h)) };
+
+    fn fmt<W: fmt::Write>(&self, f: &mut fmt::Formatter<W>) -> fmt::Result {
+        match self.0 {
+            Some(Message::Data { node, bytes }) => {
+                let command = Hex(&bytes[0..bytes.len().min(1)]);
+                let data = Hex(bytes);
+                write!(f, "data, node {node:02X}, command {command}, data {data}")
+            }
+            Some(Message::Error { code }) => write!(f, "error {code:02X}"),
+            None => write!(f, "no frame"),
+        }
+    }
 }
 
 /// How many frames said what.
-#[derive(Clone, Copy)]
+#[derive(Clone, Copy, Default)]
 pub(crate) struct Counts {
     pub(crate) messages: usize,
     pub(crate) errors: usize,
     pub(crate) unreadable: usize,
 }
 
-/// What a frame says in a framing, whatever its mark.
-pub(crate) fn hear<F: Framing>(framing: &F, frame: &[u8]) -> Heard
-    ensures { message_of result ≡ message_read ((F.Framing.rule framing.now).reads frame.now) }
-{
-    let mut buffer = [0u8; MAX_DATA];
-    match framing.read(frame, &mut buffer) {
-        Ok((_, unpacked)) => Heard {
-            unpacked: Some(unpacked),
-            buffer,
-        },
-        Err(_) => Heard {
-            unpacked: None,
-            buffer,
-        },
-    }
-}
+impl fmt::Display for Counts {
+    ghost output = { λ c. Some (counts_words c) };
 
-/// What was heard, in words.
-fn heard_in_words(heap: Global, heard: &Heard) -> Result<String, AllocError>
-    ensures { IfOk result (λ t. string_bytes t ≡ words (message_of heard.now)) }
-{
-    match heard.unpacked {
-        Some(unpacked) => in_words(heap, unpacked.message(&heard.buffer)),
-        None => String::from_str(heap, "no frame"),
+    fn fmt<W: fmt::Write>(&self, f: &mut fmt::Formatter<W>) -> fmt::Result {
+        let Counts {
+            messages,
+            errors,
+            unreadable,
+        } = *self;
+        write!(
+            f,
+            "{messages} data, {errors} error, {unreadable} unreadable"
+        )
     }
-}
-
-/// The line of a frame in the listing: its number, the place of its first byte, and what it says.
-pub(crate) fn entry(
-    heap: Global,
-    number: usize,
-    place: usize,
-    heard: &Heard,
-) -> Result<String, AllocError>
-    ensures { IfOk result (λ t. string_bytes t ≡ entry_line number place (message_of heard.now)) }
-{
-    let says = heard_in_words(heap, heard)?;
-    format!(in heap; "{number} at {place}: {says}\n")
 }
 
 impl Counts {
-    /// Nothing heard yet.
-    pub(crate) fn new() -> Self
-        ensures { result ≡ none_yet }
+    /// How many frames were heard.
+    pub(crate) fn total(self) -> usize
+        requires { total self < 2 ^ 64 }
+        ensures { result ≡ total self }
     {
-        Counts {
-            messages: 0,
-            errors: 0,
-            unreadable: 0,
-        }
+        self.messages + self.errors + self.unreadable
     }
 
     /// One frame more.
-    pub(crate) fn add(self, heard: &Heard) -> Self
-        requires { total self < 2 ^ 63 }
-        ensures { result ≡ counted self (message_of heard.now) }
+    pub(crate) fn add(&mut self, heard: Heard<'_>)
+        requires { total self.old < 2 ^ 63 }
+        ensures { self.new ≡ counted self.old (message_of heard.entry) }
     {
-        match heard.unpacked {
-            Some(Unpacked::Data { .. }) => Counts {
-                messages: self.messages + 1,
-                ..self
-            },
-            Some(Unpacked::Error { .. }) => Counts {
-                errors: self.errors + 1,
-                ..self
-            },
-            None => Counts {
-                unreadable: self.unreadable + 1,
-                ..self
-            },
+        match heard.0 {
+            Some(Message::Data { .. }) => self.messages += 1,
+            Some(Message::Error { .. }) => self.errors += 1,
+            None => self.unreadable += 1,
         }
     }
 }

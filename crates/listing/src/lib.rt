@@ -3,4 +3,4 @@
 
 pub mod frames;
 mod heard;
-mod words;
+mod hex;

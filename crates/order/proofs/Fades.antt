@@ -1,12 +1,11 @@
 -- The two fades do not meet, so they may mix; and where the fog is read before its last step, the read gives another value.
-use Rattle.std.proofs.Common.{◌≡◌, ℕ, zero, suc, ◌<◌, true, List, [], ◌∷◌, ◌++◌, get_or, refl, ⊎_elim, arith}
+use Rattle.std.proofs.Common.{◌≡◌, ℕ, zero, suc, ◌<◌, true, List, [], ◌∷◌, ◌++◌, get_or, Some, None, Ok, refl, ⊎_elim, arith, rules}
 use Rattle.std.proofs.lemmas.Bool.{eqb-true}
 use Rattle.order.specs.Calls.{outcomes}
 use Rattle.order.specs.Fades.{haze, fog, mixed, crossed}
 use Rattle.order.specs.Mixing.{Mixed, none, from_first, from_second, Apart}
 use Rattle.order.specs.Registers.{register_calls, written, concerned, Retagged, SameAnswer}
 use Rattle.order.specs.Reordering.{Rearranged}
-use Rattle.order.specs.declared.registers.Answer.TheVariants.{Value, Missing}
 use Rattle.order.specs.declared.registers.Call.{Call}
 use Rattle.order.specs.declared.registers.Outcome.{Outcome}
 use Rattle.order.proofs.RegisterCalls.{written-concerned, premises}
@@ -40,17 +39,17 @@ apart x i j h g (r, q) =
 abbrev zeros : List ℕ
 zeros = 0 ∷ 0 ∷ 0 ∷ []
 
-no_hundred : (x : Outcome) (i : ℕ) → i < 6 → Value 100 ≡ (get_or (outcomes register_calls crossed zeros) i x).answer → ⊥
-no_hundred x zero h e = let z : ◌≡◌ {A = ℕ} 0 1 = cc in omega arith
-no_hundred x (suc zero) h e = let z : ◌≡◌ {A = ℕ} 0 1 = cc in omega arith
-no_hundred x (suc (suc zero)) h e = let z : ◌≡◌ {A = ℕ} 0 1 = cc in omega arith
-no_hundred x (suc (suc (suc zero))) h e = let z : ◌≡◌ {A = ℕ} 100 200 = cc in omega arith
-no_hundred x (suc (suc (suc (suc zero)))) h e = let z : ◌≡◌ {A = ℕ} 0 1 = cc in omega arith
-no_hundred x (suc (suc (suc (suc (suc zero))))) h e = let z : ◌≡◌ {A = ℕ} 0 1 = cc in omega arith
+no_hundred : (x : Outcome) (i : ℕ) → i < 6 → Ok (Some 100) ≡ (get_or (outcomes register_calls crossed zeros) i x).answer → ⊥
+no_hundred x zero h e = search rules
+no_hundred x (suc zero) h e = search rules
+no_hundred x (suc (suc zero)) h e = search rules
+no_hundred x (suc (suc (suc zero))) h e = search rules
+no_hundred x (suc (suc (suc (suc zero)))) h e = search rules
+no_hundred x (suc (suc (suc (suc (suc zero))))) h e = search rules
 no_hundred x (suc (suc (suc (suc (suc (suc i)))))) h e = absurd (omega arith)
 
 pub not-crossed : Rearranged register_calls Retagged (haze ++ fog) crossed → ⊥
 not-crossed p =
-    let x : Outcome = record { tag = 0; answer = Missing } in
+    let x : Outcome = record { tag = 0; answer = Ok None } in
     no_hundred x (p.to 5) (p.to_below 5 (omega arith))
     ((reordering register_calls Retagged SameAnswer premises (haze ++ fog) crossed p zeros zeros (λ r. refl)).outcome x 5 (omega arith))

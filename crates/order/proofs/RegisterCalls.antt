@@ -1,6 +1,6 @@
 -- The calls on registers satisfy the premises of the theorem on order.
-use Rattle.std.proofs.Common.{◌≡◌, ℕ, zero, suc, true, false, eqb, List, [], ◌∷◌, set, Some, None, Option, sym, refl, ap, ◌∙◌, arith}
-use Rattle.std.proofs.lemmas.Bool.{eq-eqb, eqb-true, or_left, or_right}
+use Rattle.std.proofs.Common.{◌≡◌, ℕ, zero, suc, true, false, eqb, List, [], ◌∷◌, set, Some, None, Option, option_map, sym, refl, ap, ◌∙◌}
+use Rattle.std.proofs.lemmas.Bool.{eq-eqb, eqb-true, eqb-false, or_left, or_right}
 use Rattle.std.specs.List.{slice_get}
 use Rattle.order.specs.Calls.{Premises}
 use Rattle.order.specs.Registers.{read_of, write_of, stored, answered, left, written, concerned, register_calls, Retagged, SameAnswer}
@@ -8,11 +8,7 @@ use Rattle.order.specs.declared.registers.Ask.{Ask}
 use Rattle.order.specs.declared.registers.Ask.TheVariants.{Read, Write, Copy}
 
 -- a register that is set has the new value, if it is there
-abbrev over : ℕ → Option ℕ → Option ℕ
-over v (Some w) = Some v
-over v None = None
-
-nth_set_same : (s : List ℕ) (r v : ℕ) → slice_get (set s r v) r ≡ over v (slice_get s r)
+nth_set_same : (s : List ℕ) (r v : ℕ) → slice_get (set s r v) r ≡ option_map (λ _. v) (slice_get s r)
 nth_set_same [] r v = refl
 nth_set_same (w ∷ s) zero v = refl
 nth_set_same (w ∷ s) (suc r) v = nth_set_same s r v
@@ -25,15 +21,12 @@ nth_set_other (w ∷ s) (suc r) v zero n = refl
 nth_set_other (w ∷ s) (suc r) v (suc k) n = nth_set_other s r v k (λ e. n (ap suc e))
 
 stored_same : (o : Option ℕ) (s s' : List ℕ) (r : ℕ) → slice_get s r ≡ slice_get s' r → slice_get (stored o s r) r ≡ slice_get (stored o s' r) r
-stored_same (Some v) s s' r e = nth_set_same s r v ∙ ap (over v) e ∙ sym (nth_set_same s' r v)
+stored_same (Some v) s s' r e = nth_set_same s r v ∙ ap (option_map (λ _. v)) e ∙ sym (nth_set_same s' r v)
 stored_same None s s' r e = e
 
 stored_other : (o : Option ℕ) (s : List ℕ) (r k : ℕ) → (k ≡ r → ⊥) → slice_get (stored o s r) k ≡ slice_get s k
 stored_other (Some v) s r k n = nth_set_other s r v k n
 stored_other None s r k n = refl
-
-differ : (k r : ℕ) → eqb k r ≡ false → k ≡ r → ⊥
-differ k r h e = let f = eq-eqb k r e in let z : ◌≡◌ {A = ℕ} 0 1 = cc in omega arith
 
 here : (r : ℕ) → eqb r r ≡ true
 here r = eq-eqb r r refl
@@ -46,8 +39,8 @@ written-concerned (Copy q r) k h = or_right (eqb k q) (eqb k r) h
 
 others_stay : (a : Ask) (s : List ℕ) (k : ℕ) → written a k ≡ false → slice_get (left a s) k ≡ slice_get s k
 others_stay (Read r) s k h = refl
-others_stay (Write r v) s k h = nth_set_other s r v k (differ k r h)
-others_stay (Copy q r) s k h = stored_other (slice_get s q) s r k (differ k r h)
+others_stay (Write r v) s k h = nth_set_other s r v k (eqb-false k r h)
+others_stay (Copy q r) s k h = stored_other (slice_get s q) s r k (eqb-false k r h)
 
 abbrev Agreed : Ask → List ℕ → List ℕ → Type 0
 Agreed a s s' = (k : ℕ) → concerned a k ≡ true → slice_get s k ≡ slice_get s' k

@@ -1,30 +1,36 @@
 -- Calls on registers: reads, writes and copies, each under the tag of the desk that asks.
-use Rattle.std.specs.Prelude.{◌≡◌, ℕ, Bool, false, ◌||◌, List, Some, None, Option, ◌==◌, slice_set}
+use Rattle.std.specs.Prelude.{◌≡◌, ℕ, Bool, false, ◌||◌, List, Some, None, Ok, Err, Option, Result, ◌==◌, slice_set}
 use Rattle.std.specs.List.{slice_get}
 use Rattle.order.specs.Calls.{Calls}
 use Rattle.order.specs.declared.registers.Ask.{Ask}
 use Rattle.order.specs.declared.registers.Ask.TheVariants.{Read, Write, Copy}
 use Rattle.order.specs.declared.registers.Call.{Call}
-use Rattle.order.specs.declared.registers.Answer.{Answer}
-use Rattle.order.specs.declared.registers.Answer.TheVariants.{Value, Done, Missing}
+use Rattle.order.specs.declared.registers.Missing.{Missing}
 use Rattle.order.specs.declared.registers.Outcome.{Outcome}
 
 -- The registers are a list of values. `slice_get s r` is what register r holds, or none where it is missing.
 
+-- a value where one is read, none where a write or a copy is done, or that a register is missing
+abbrev pub Answer : Type 0
+Answer = Result (Option ℕ) Missing
+
+abbrev pub missing : Missing
+missing = record {}
+
 -- the answer to a read, by what the register holds
 abbrev pub read_of : Option ℕ → Answer
-read_of (Some v) = Value v
-read_of None = Missing
+read_of (Some v) = Ok (Some v)
+read_of None = Err missing
 
 -- the answer to a write, by what the register held
 abbrev pub write_of : Option ℕ → Answer
-write_of (Some v) = Done
-write_of None = Missing
+write_of (Some v) = Ok None
+write_of None = Err missing
 
 -- the answer to a copy, by what the two registers held
 abbrev pub copy_of : Option ℕ → Option ℕ → Answer
 copy_of (Some v) to = write_of to
-copy_of None to = Missing
+copy_of None to = Err missing
 
 -- register r with what another one holds
 abbrev pub stored : Option ℕ → List ℕ → ℕ → List ℕ

@@ -1,7 +1,9 @@
 //! Registers that are read, written and copied: calls to which the theorem on order applies.
-ghost use Rattle.std.specs.Prelude.{◌≡◌, ◌++◌};
+ghost use Rattle.std.specs.Prelude.{◌≡◌, ◌++◌, None, Ok, ok_or};
+ghost use Rattle.std.specs.List.{slice_get};
+ghost use Rattle.std.specs.Result.{result_and};
 ghost use Rattle.order.specs.Fades.{haze, fog, mixed, crossed};
-ghost use Rattle.order.specs.Registers.{answered, left, register_calls, Retagged, SameAnswer};
+ghost use Rattle.order.specs.Registers.{answered, left, missing, register_calls, Retagged, SameAnswer};
 ghost use Rattle.order.specs.Reordering.{Rearranged, Reorderable};
 ghost use Rattle.order.specs.declared.registers.Ask.TheVariants.{Read, Write, Copy};
 
@@ -27,24 +29,17 @@ pub struct Call {
     pub ask: Ask,
 }
 
-/// What a call is answered.
-#[derive(Clone, Copy)]
-pub enum Answer {
-    /// The value that was read.
-    Value(u32),
-    /// The write or the copy is done.
-    Done,
-    /// A register that the call names is missing, and nothing has changed.
-    Missing,
-}
+/// A register that a call names is missing, and nothing has changed.
+#[derive(Clone, Copy, PartialEq, Eq, Debug)]
+pub struct Missing;
 
 /// The outcome of a call: an answer, under the tag of the call.
-#[derive(Clone, Copy)]
+#[derive(Clone, Copy, PartialEq, Eq, Debug)]
 pub struct Outcome {
     /// The tag of the call.
     pub tag: u8,
-    /// What is answered.
-    pub answer: Answer,
+    /// What is answered: the value that was read, or no value where a write or a copy is done.
+    pub answer: Result<Option<u32>, Missing>,
 }
 
 /// A call is recast when it asks for the same, under any tag.
@@ -63,10 +58,11 @@ pub fn make(registers: &mut [u32], call: Call) -> Outcome
     ensures outcome { result ≡ register_calls.outcome call registers.old }
     ensures after { registers.new ≡ register_calls.after call registers.old }
 {
+    // What is asked is data that a desk sends, so that no step can be handed in for it.
     let answer = match call.ask {
-        Ask::Read(row) => read(registers, row),
-        Ask::Write(row, value) => write(registers, row, value),
-        Ask::Copy(from, to) => copy(registers, from, to),
+        Ask::Read(row) => read(registers, row).map(Some),
+        Ask::Write(row, value) => write(registers, row, value).map(|()| None),
+        Ask::Copy(from, to) => copy(registers, from, to).map(|()| None),
     };
     Outcome {
         tag: call.tag,
@@ -92,35 +88,33 @@ pub fn fades_mix() -> u8
     mixing_stands::<Call, Outcome, Option<u32>, [u32; 3]>()
 }
 
-fn read(registers: &[u32], row: usize) -> Answer
-    ensures { result ≡ answered (Read row) registers.now }
+/// The value of a register.
+fn read(registers: &[u32], row: usize) -> Result<u32, Missing>
+    ensures { result ≡ ok_or (slice_get registers.now row) missing }
 {
-    match registers.get(row) {
-        Some(value) => Answer::Value(*value),
-        None => Answer::Missing,
-    }
+    registers.get(row).copied().ok_or(Missing)
 }
 
-fn write(registers: &mut [u32], row: usize, value: u32) -> Answer
-    ensures answer { result ≡ answered (Write row value) registers.old }
+/// Gives a register a value.
+fn write(registers: &mut [u32], row: usize, value: u32) -> Result<(), Missing>
+    ensures answer { result_and result (Ok None) ≡ answered (Write row value) registers.old }
     ensures after { registers.new ≡ left (Write row value) registers.old }
 {
-    if row < registers.len() {
-        registers[row] = value;
-        Answer::Done
-    } else {
-        Answer::Missing
+    // not by `get_mut`: of a slice it tells no proof what stands there after the write
+    if row >= registers.len() {
+        return Err(Missing);
     }
+    registers[row] = value;
+    Ok(())
 }
 
-fn copy(registers: &mut [u32], from: usize, to: usize) -> Answer
-    ensures answer { result ≡ answered (Copy from to) registers.old }
+/// Gives the register `to` the value of the register `from`.
+fn copy(registers: &mut [u32], from: usize, to: usize) -> Result<(), Missing>
+    ensures answer { result_and result (Ok None) ≡ answered (Copy from to) registers.old }
     ensures after { registers.new ≡ left (Copy from to) registers.old }
 {
-    match read(registers, from) {
-        Answer::Value(value) => write(registers, to, value),
-        _ => Answer::Missing,
-    }
+    let value = read(registers, from)?;
+    write(registers, to, value)
 }
 
 #[cfg(test)]
@@ -131,31 +125,21 @@ mod tests {
         Call { tag, ask }
     }
 
-    // The value read, nothing for a write or a copy, or that a register is missing.
-    fn told(answer: Answer) -> Result<Option<u32>, u8> {
-        match answer {
-            Answer::Value(value) => Ok(Some(value)),
-            Answer::Done => Ok(None),
-            Answer::Missing => Err(0),
-        }
-    }
-
     #[test]
     fn calls(rt: HostRuntime) {
         let cases = [
             (Ask::Read(1), Ok(Some(20)), [10, 20, 30]),
-            (Ask::Read(3), Err(0), [10, 20, 30]),
+            (Ask::Read(3), Err(Missing), [10, 20, 30]),
             (Ask::Write(0, 7), Ok(None), [7, 20, 30]),
-            (Ask::Write(3, 7), Err(0), [10, 20, 30]),
+            (Ask::Write(3, 7), Err(Missing), [10, 20, 30]),
             (Ask::Copy(0, 2), Ok(None), [10, 20, 10]),
-            (Ask::Copy(3, 0), Err(0), [10, 20, 30]),
-            (Ask::Copy(0, 3), Err(0), [10, 20, 30]),
+            (Ask::Copy(3, 0), Err(Missing), [10, 20, 30]),
+            (Ask::Copy(0, 3), Err(Missing), [10, 20, 30]),
         ];
         for (ask, answer, after) in cases {
             let mut registers = [10, 20, 30];
             let outcome = make(&mut registers, by(5, ask));
-            assert_eq!(rt; outcome.tag, 5);
-            assert_eq!(rt; told(outcome.answer), answer);
+            assert_eq!(rt; outcome, Outcome { tag: 5, answer });
             assert_eq!(rt; registers, after);
         }
     }
@@ -164,7 +148,7 @@ mod tests {
     fn run(registers: &mut [u32], calls: &[Call]) -> Option<u32> {
         let mut read = None;
         for call in calls {
-            if let Answer::Value(value) = make(registers, *call).answer {
+            if let Ok(Some(value)) = make(registers, *call).answer {
                 read = Some(value);
             }
         }
