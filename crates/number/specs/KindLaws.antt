@@ -1,7 +1,9 @@
 -- The laws of the four kinds.
-use Rattle.std.specs.Prelude.{◌≡◌, ℕ, ◌<◌, Bool, true, false, cond, not, T, List, length, is_some, Some, None, Option, from_bits, is_nan, to_bits, refl, Float}
-use Rattle.std.proofs.Common.{sym, ap, subst, ◌∙◌, arith, rules}
+use Rattle.std.specs.Prelude.{◌≡◌, ℕ, ◌<◌, Bool, true, false, cond, not, ◌||◌, T, nat_le, List, length, is_some, Some, None, Option, from_bits, is_nan, to_bits, refl, Float}
+use Rattle.std.proofs.Common.{Less, Equal, Greater, sym, ap, subst, ◌∙◌, arith, rules}
+use Rattle.std.proofs.lemmas.Bool.Decides.{nat_tests}
 use Rattle.std.specs.Float.Ieee as Ieee
+use Rattle.std.specs.Ordering.{nat_cmp, float_partial_cmp, partial_le, is_some_and, is_le}
 use Rattle.std.specs.Float.{binary32}
 use Rattle.std.specs.Float.Ieee.Bits.{is_false, to_bits-lt, to_bits-of_bits, of_bits-to_bits}
 use Rattle.value.specs.Values.{Bytes}
@@ -53,6 +55,20 @@ float_again bs (Some n) x p b e =
 
 writes_number : (x : Float) → T (not (is_nan x)) → is_some (float.writes x) ≡ true
 writes_number x h = ap (λ (k : Bool). is_some (cond k None (Some (four (to_bits binary32 x))))) (is_false (is_nan x) h)
+
+-- the orders of the kinds are those of `<=`
+pub nat_ordered : (m n : ℕ) → partial_le (λ x y. Some (nat_cmp x y)) m n ≡ nat_le m n
+nat_ordered m n = grind (arith, nat_tests)
+
+pub float_ordered : (x y : Float) → partial_le float_partial_cmp x y ≡ Ieee.le x y
+unfolding Ieee.le
+float_ordered x y = by (Ieee.lt x y) (Ieee.eq x y) (Ieee.lt y x)
+  where
+    by : (less equal more : Bool) → is_some_and is_le (cond less (Some Less) (cond equal (Some Equal) (cond more (Some Greater) None))) ≡ (less || equal)
+    by true equal more = refl
+    by false true more = refl
+    by false false true = refl
+    by false false false = refl
 
 -- what is not a number is neither below nor above anything
 le_numbers : (x y : Float) → Ieee.le x y ≡ true → T (not (is_nan x)) × T (not (is_nan y))

@@ -1,6 +1,6 @@
 // char: one byte.
 ghost use Rattle.number.specs.Numbers.{char as char_kind};
-ghost use Rattle.number.specs.KindLaws.{char_laws};
+ghost use Rattle.number.specs.KindLaws.{char_laws, nat_ordered};
 
 use crate::Number;
 use value::Value;
@@ -9,6 +9,8 @@ impl Number for u8 {
     ghost kind = { char_kind };
 
     ghost lawful = { char_laws };
+
+    ghost ordered = { nat_ordered };
 
     fn width() -> usize {
         1
@@ -23,9 +25,5 @@ impl Number for u8 {
 
     fn write(self) -> Option<Value> {
         Value::new(&[self])
-    }
-
-    fn at_most(self, other: u8) -> bool {
-        self <= other
     }
 }

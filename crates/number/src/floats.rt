@@ -1,6 +1,6 @@
 // float: the four bytes of an IEEE binary32, the highest first.
 ghost use Rattle.number.specs.Numbers.{float};
-ghost use Rattle.number.specs.KindLaws.{float_laws};
+ghost use Rattle.number.specs.KindLaws.{float_laws, float_ordered};
 
 use crate::Number;
 use value::Value;
@@ -10,6 +10,8 @@ impl Number for f32 {
 
     ghost lawful = { float_laws };
 
+    ghost ordered = { float_ordered };
+
     // A float has the width of a long.
     fn width() -> usize {
         u32::width()
@@ -17,7 +19,7 @@ impl Number for f32 {
 
     fn read(bytes: &[u8]) -> Option<f32> {
         let x = std::num::f32_from_bits_with_nan(u32::read(bytes)?);
-        if x.is_nan() { None } else { Some(x) }
+        (!x.is_nan()).then_some(x)
     }
 
     fn write(self) -> Option<Value> {
@@ -26,9 +28,5 @@ impl Number for f32 {
         } else {
             Value::new(&self.to_be_bytes())
         }
-    }
-
-    fn at_most(self, other: f32) -> bool {
-        self <= other
     }
 }

@@ -1,6 +1,6 @@
 // integer: two bytes, the highest first.
 ghost use Rattle.number.specs.Numbers.{integer};
-ghost use Rattle.number.specs.KindLaws.{integer_laws};
+ghost use Rattle.number.specs.KindLaws.{integer_laws, nat_ordered};
 
 use crate::Number;
 use value::Value;
@@ -10,22 +10,17 @@ impl Number for u16 {
 
     ghost lawful = { integer_laws };
 
+    ghost ordered = { nat_ordered };
+
     fn width() -> usize {
         2
     }
 
     fn read(bytes: &[u8]) -> Option<u16> {
-        match bytes {
-            [a, b] => Some(u16::from_be_bytes([*a, *b])),
-            _ => None,
-        }
+        Some(u16::from_be_bytes(bytes.try_into().ok()?))
     }
 
     fn write(self) -> Option<Value> {
         Value::new(&self.to_be_bytes())
-    }
-
-    fn at_most(self, other: u16) -> bool {
-        self <= other
     }
 }

@@ -12,6 +12,7 @@
 
 ghost use Rattle.std.specs.Prelude.{◌≡◌, Some};
 ghost use Rattle.std.specs.Option.{option_map};
+ghost use Rattle.std.specs.Ordering.{partial_le};
 ghost use Rattle.value.specs.Values.{bytes_of};
 ghost use Rattle.number.specs.Numbers.{NumberKind, Laws, ReadBack};
 ghost use Rattle.number.specs.Ranges.{between, in_range, in_order};
@@ -24,7 +25,8 @@ mod integers;
 mod longs;
 
 /// A kind of number. What it means is its `kind`, and every implementation shows that this keeps `Laws`.
-pub trait Number: Copy {
+// `from_be_bytes` and `to_be_bytes` are each type's own and of no trait, so each kind reads and writes by its own.
+pub trait Number: PartialOrd + Copy {
     ghost kind: { NumberKind Self };
 
     /// How many bytes a number of the kind has.
@@ -42,9 +44,15 @@ pub trait Number: Copy {
 
     /// Whether the number is at most the other. What is not a number is neither below nor above anything.
     fn at_most(self, other: Self) -> bool
-        ensures { result ≡ kind.at_most self other };
+        ensures { result ≡ kind.at_most self other }
+    {
+        self <= other
+    }
 
     ghost lawful: { Laws kind };
+
+    // The order of the kind is that of `<=`.
+    ghost ordered: { (m n : Self) → partial_le Self.partial_cmp m n ≡ kind.at_most m n };
 }
 
 /// The numbers that a row admits, from `least` to `greatest`, and the one that it starts with.
@@ -60,10 +68,7 @@ impl<N: Number> Range<N> {
     pub fn admits(&self, bytes: &[u8]) -> bool
         ensures { result ≡ in_range N.Number.kind self.now bytes.now }
     {
-        match N::read(bytes) {
-            Some(n) => self.holds(n),
-            None => false,
-        }
+        N::read(bytes).is_some_and(|n| self.holds(n))
     }
 
     /// Whether least ≤ default ≤ greatest. Then all three are numbers.

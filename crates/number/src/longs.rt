@@ -1,6 +1,6 @@
 // long: four bytes, the highest first.
 ghost use Rattle.number.specs.Numbers.{long};
-ghost use Rattle.number.specs.KindLaws.{long_laws};
+ghost use Rattle.number.specs.KindLaws.{long_laws, nat_ordered};
 
 use crate::Number;
 use value::Value;
@@ -10,22 +10,17 @@ impl Number for u32 {
 
     ghost lawful = { long_laws };
 
+    ghost ordered = { nat_ordered };
+
     fn width() -> usize {
         4
     }
 
     fn read(bytes: &[u8]) -> Option<u32> {
-        match bytes {
-            [a, b, c, d] => Some(u32::from_be_bytes([*a, *b, *c, *d])),
-            _ => None,
-        }
+        Some(u32::from_be_bytes(bytes.try_into().ok()?))
     }
 
     fn write(self) -> Option<Value> {
         Value::new(&self.to_be_bytes())
-    }
-
-    fn at_most(self, other: u32) -> bool {
-        self <= other
     }
 }

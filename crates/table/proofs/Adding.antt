@@ -1,18 +1,14 @@
 -- A row that passes the tests may be added.
-use Rattle.std.proofs.Common.{◌≡◌, ℕ, suc, ◌+◌, ◌*◌, ◌<◌, ◌≤◌, Bool, true, false, cond, not, ◌||◌, eqb, leb, List, [], ◌∷◌, map, length, take, set, None, Ok, Option, sym, refl, ap, ◌∙◌, subst, arith, length-append}
-use Rattle.std.proofs.lemmas.List.{get_or_append_left, get_or_push, take_more_set, map_push}
+use Rattle.std.proofs.Common.{◌≡◌, ℕ, suc, ◌+◌, ◌*◌, ◌<◌, ◌≤◌, Bool, true, false, cond, not, ◌||◌, eqb, leb, List, [], ◌∷◌, ◌++◌, map, length, Some, None, Ok, Err, Option, sym, refl, ap, ◌∙◌, subst, arith, length-append}
+use Rattle.std.proofs.lemmas.List.{get_or_append_left, get_or_push, length-map, map_push}
 use Rattle.std.proofs.lemmas.Bool.{and_parts, and_from, or_parts, ne_eqb, eqb-true, le-leb, leb-true, leb-false}
 use Rattle.table.specs.declared.Row.{Row}
-use Rattle.table.specs.Rows.{PlainRow, plain, keeps_rules, has_pair, reset_row, is_reset}
-use Rattle.table.specs.Draws.{amount, draw, number_of, default_bytes, default_numbers, limit_of, within}
-use Rattle.table.specs.Tables.{pair_taken, apart, all_keep_rules, Supplied}
+use Rattle.table.specs.Rows.{PlainRow, plain, keeps_rules, has_pair, reset_row}
+use Rattle.table.specs.Draws.{row_at, amount, draw, number_of, default_bytes, default_numbers, limit_of, within}
+use Rattle.table.specs.Tables.{pair_taken, apart, all_keep_rules, Supplied, Ruled}
 use Rattle.table.specs.Refusals.{added, has_room, first_failed, add_refusal, answer, after}
-use Rattle.table.proofs.Facts.{Kept}
+use Rattle.table.proofs.Facts.{all_bytes}
 use Rattle.table.proofs.Sums.{draw_same}
-
--- one more row in the array
-pub rows_added : (slots : List Row) (n : ℕ) (r : Row) → n < length slots → map plain (take (n + 1) (set slots n r)) ≡ added (map plain (take n slots)) (plain r)
-rows_added slots n r l = ap (map plain) (take_more_set slots n r l) ∙ map_push plain (take n slots) r
 
 ruled_added : (rows : List PlainRow) (r : PlainRow) → all_keep_rules rows ≡ true → keeps_rules r ≡ true → all_keep_rules (added rows r) ≡ true
 ruled_added [] r a e = and_from (keeps_rules r) true e refl
@@ -74,24 +70,34 @@ passes_all true false false false e = let z : ◌≡◌ {A = ℕ} 0 1 = cc in ab
 passes_all true false false true e = (refl, refl, refl, refl)
 
 -- a row that is not refused leaves a table to its rules
-module _ (n : ℕ) (limits : List ℕ) (rows : List PlainRow) (r : PlainRow) (k : Kept n limits rows) (e : None ≡ add_refusal rows limits r) where
-  pub place_free : n < 128
-  place_free = omega (arith, k.counted, leb-false 128 (length rows) (passes_all _ _ _ _ e).1)
+module _ (rows : List Row) (limits : List ℕ) (r : Row) (t : Ruled (map plain rows) limits) (e : None ≡ add_refusal (map plain rows) limits (plain r)) where
+  pub place_free : length rows < 128
+  place_free = omega (arith, length-map rows plain, leb-false 128 (length (map plain rows)) (passes_all _ _ _ _ e).1)
 
-  pub kept_added : Kept (n + 1) limits (added rows r)
-  kept_added =
-      let p = passes_all (keeps_rules r) (leb 128 (length rows)) (pair_taken r.process r.parameter rows) (has_room rows limits r) e in
+  pub ruled_more : Ruled (map plain (rows ++ r ∷ [])) limits
+  ruled_more =
+      let p = passes_all (keeps_rules (plain r)) (leb 128 (length (map plain rows))) (pair_taken r.process r.parameter (map plain rows)) (has_room (map plain rows) limits (plain r)) e in
+      let more = λ (P : List PlainRow → Type 0) (h : P (added (map plain rows) (plain r))). subst P (sym (map_push plain rows r)) h in
       record {
-        counted = simp length-append (omega (arith, k.counted));
-        some = omega arith;
-        few = omega (arith, place_free);
-        first = ap is_reset (get_or_append_left rows (r ∷ []) reset_row 0 (omega (arith, k.counted, k.some))) ∙ k.first;
-        lawful = ruled_added rows r k.lawful p.0;
-        distinct = apart-added rows r k.distinct p.2;
-        eight = k.eight;
-        capped = k.capped;
-        supplied = supplied_added rows limits r k.supplied p.3;
+        some = simp (length-map, length-append) (omega arith);
+        few = simp (length-map, length-append) (omega (arith, place_free));
+        first = more (λ rs. row_at rs 0 ≡ reset_row) (get_or_append_left (map plain rows) (plain r ∷ []) reset_row 0 t.some ∙ t.first);
+        lawful = more (λ rs. all_keep_rules rs ≡ true) (ruled_added (map plain rows) (plain r) t.lawful p.0);
+        distinct = more (λ rs. apart rs ≡ true) (apart-added (map plain rows) (plain r) t.distinct p.2);
+        eight = t.eight;
+        capped = t.capped;
+        supplied = more (λ rs. Supplied rs limits) (supplied_added (map plain rows) limits (plain r) t.supplied p.3);
+        octets = all_bytes (rows ++ r ∷ []);
       }
 
-pub none_told : {E X : Type 0} (o : Option E) (new old : X) → None ≡ o → (Ok tt ≡ answer o) × (new ≡ after o new old)
-none_told o new old e = (ap answer e, ap (λ (x : Option _). after x new old) e)
+-- what a call answers, and what then stands
+pub not_refused : {E : Type 0} {x : Unit {0}} (o : Option E) → Ok x ≡ answer o → None ≡ o
+not_refused None e = refl
+not_refused (Some r) e = let z : ◌≡◌ {A = ℕ} 0 1 = cc in absurd (omega arith)
+
+pub stays : {E X : Type 0} {x : E} (o : Option E) (new old : X) → Err x ≡ answer o → old ≡ after o new old
+stays None new old e = let z : ◌≡◌ {A = ℕ} 0 1 = cc in absurd (omega arith)
+stays (Some r) new old e = refl
+
+pub changes : {E X : Type 0} (o : Option E) (new old : X) → None ≡ o → new ≡ after o new old
+changes o new old e = ap (λ (x : Option _). after x new old) e

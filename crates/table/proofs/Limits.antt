@@ -1,11 +1,10 @@
 -- The limit of a feed, and a new one.
 use Rattle.std.proofs.Common.{◌≡◌, ℕ, zero, suc, ◌-◌, ◌*◌, ◌<◌, ◌≤◌, Bool, true, false, cond, ◌&&◌, leb, ◌≢◌, List, ◌∷◌, length, set, Some, None, unwrap_or, sym, refl, ap, ◌∙◌, subst, ⊎_elim, arith, length-set, get_or-set_other, get_or-set_same}
 use Rattle.std.proofs.lemmas.List.{get_or_past}
-use Rattle.std.proofs.lemmas.Bool.{cases_eq, and_cases, leb-false, le-leb}
+use Rattle.std.proofs.lemmas.Bool.{cases_eq, and_cases, and_parts, leb-true, leb-false, le-leb}
 use Rattle.table.specs.Rows.{PlainRow}
 use Rattle.table.specs.Draws.{limit_of, draw, within, default_numbers}
-use Rattle.table.specs.Tables.{Capped, Supplied}
-use Rattle.table.proofs.Facts.{Kept}
+use Rattle.table.specs.Tables.{Capped, Supplied, Ruled}
 
 pick : (b : Bool) (n : ℕ) → (b ≡ false → n ≡ 0) → unwrap_or (cond b (Some n) None) 0 ≡ n
 pick true n h = refl
@@ -44,19 +43,27 @@ supplied_set rows limits f n p l h s g a b =
     (λ (d : g ≡ f → ⊥). ap (λ (x : ℕ). leb (draw g rows (default_numbers rows)) (x * 32000)) (other_feed limits f g n p d) ∙ s g a b)
     (cases_eq g f)
 
+-- where the limit of a feed is kept
+pub placed : (f p : ℕ) → cond (leb 1 f && leb f 8) (Some (f - 1)) None ≡ Some p → (1 ≤ f) × (f ≤ 8) × (f - 1 ≡ p)
+placed f p e = by (leb 1 f && leb f 8) refl e
+  where
+    by : (b : Bool) → (leb 1 f && leb f 8) ≡ b → cond b (Some (f - 1)) None ≡ Some p → (1 ≤ f) × (f ≤ 8) × (f - 1 ≡ p)
+    by true q h = let a = and_parts (leb 1 f) (leb f 8) q in (leb-true 1 f a.0, leb-true f 8 a.1, cc)
+    by false q h = let z : ◌≡◌ {A = ℕ} 0 1 = cc in absurd (omega arith)
+
 -- a limit that is not refused leaves a table to its rules
-pub kept_limited : (n : ℕ) (limits : List ℕ) (rows : List PlainRow) (f limit : ℕ) → Kept n limits rows → 1 ≤ f → f ≤ 8 → limit ≤ 1000000 → draw f rows (default_numbers rows) ≤ limit * 32000 →
-    Kept n (set limits (f - 1) limit) rows
-kept_limited n limits rows f limit k p l h d =
-    let in_list : f ≤ length limits = omega (arith, k.eight) in
+pub ruled_limited : (rows : List PlainRow) (limits : List ℕ) (f limit : ℕ) → Ruled rows limits → 1 ≤ f → f ≤ 8 → limit ≤ 1000000 → draw f rows (default_numbers rows) ≤ limit * 32000 →
+    Ruled rows (set limits (f - 1) limit)
+ruled_limited rows limits f limit r p l h d =
+    let in_list : f ≤ length limits = omega (arith, r.eight) in
     record {
-      counted = k.counted;
-      some = k.some;
-      few = k.few;
-      first = k.first;
-      lawful = k.lawful;
-      distinct = k.distinct;
-      eight = simp length-set k.eight;
-      capped = capped_set limits f limit p in_list h k.capped;
-      supplied = supplied_set rows limits f limit p in_list d k.supplied;
+      some = r.some;
+      few = r.few;
+      first = r.first;
+      lawful = r.lawful;
+      distinct = r.distinct;
+      eight = simp length-set r.eight;
+      capped = capped_set limits f limit p in_list h r.capped;
+      supplied = supplied_set rows limits f limit p in_list d r.supplied;
+      octets = r.octets;
     }

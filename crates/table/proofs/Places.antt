@@ -1,8 +1,10 @@
 -- Looking up rows: the loops, and what is found.
 use Rattle.std.proofs.Common.{◌≡◌, ℕ, zero, suc, ◌+◌, ◌<◌, ◌≤◌, Bool, true, false, cond, not, ◌||◌, eqb, ltb, List, [], ◌∷◌, map, length, get_or, drop, is_some, Some, None, Option, sym, refl, ap, ◌∙◌, subst, ⊎_elim, arith, Bor}
 use Rattle.std.proofs.lemmas.List.{drop_more, drop_all, length-map, get_or-map}
-use Rattle.std.proofs.lemmas.Bool.{and_parts, and_from, or_parts, or_cases, or_left, eqb-true, eq-eqb, not-true, both_ways, cases_Bool, cond-true, cond-false, lt-ltb, le-ltb}
+use Rattle.std.proofs.lemmas.Bool.{and_parts, and_from, or_parts, or_cases, eqb-true, eq-eqb, not-true, both_ways, cases_Bool, cond-true, cond-false, lt-ltb, le-ltb}
+use Rattle.std.proofs.lemmas.Iterator.Adapters.{position_from-zero}
 use Rattle.std.specs.Option.{option_map}
+use Rattle.std.specs.List.{position, position_from, list_any}
 use Rattle.std.specs.Slice.{IsGetResult}
 use Rattle.table.specs.declared.Row.{Row}
 use Rattle.table.specs.Rows.{PlainRow, plain, has_pair, reset_row}
@@ -16,35 +18,17 @@ next_row rows i x e h = ap (map plain) (drop_more rows i x h ∙ ap (λ (y : Row
 pub no_row : (rows : List Row) (i : ℕ) → length rows ≤ i → map plain (drop i rows) ≡ []
 no_row rows i h = ap (map plain) (drop_all i rows h)
 
--- the loop that finds a pair
-module _ (rows : List Row) (p q i : ℕ) (inv : place p q (map plain rows) ≡ place_from i p q (map plain (drop i rows))) where
-  turn : (x : Row) (b : Bool) → x ≡ get_or rows i x → i < length rows → b ≡ has_pair p q (plain x) →
-      place p q (map plain rows) ≡ cond b (Some i) (place_from (i + 1) p q (map plain (drop (i + 1) rows)))
-  turn x b e h t = inv ∙ ap (place_from i p q) (next_row rows i x e h) ∙ ap (λ (b : Bool). cond b (Some i) (place_from (i + 1) p q (map plain (drop (i + 1) rows)))) (sym t)
+-- the search of the code for a pair, and for a process
+searched_from : (i p q : ℕ) (rows : List Row) → position_from (λ r. has_pair p q (plain r)) i rows ≡ place_from i p q (map plain rows)
+searched_from i p q [] = refl
+searched_from i p q (r ∷ rs) = ap (cond (has_pair p q (plain r)) (Some i)) (searched_from (i + 1) p q rs)
 
-  pub found : (x : Row) → x ≡ get_or rows i x → i < length rows → true ≡ has_pair p q (plain x) → Some i ≡ place p q (map plain rows)
-  found x e h t = sym (turn x true e h t)
+pub searched : (p q : ℕ) (rows : List Row) → position (λ r. has_pair p q (plain r)) rows ≡ place p q (map plain rows)
+searched p q rows = position_from-zero (λ r. has_pair p q (plain r)) rows ∙ searched_from 0 p q rows
 
-  pub passed : (x : Row) → x ≡ get_or rows i x → i < length rows → false ≡ has_pair p q (plain x) →
-      place p q (map plain rows) ≡ place_from (i + 1) p q (map plain (drop (i + 1) rows))
-  passed x e h t = turn x false e h t
-
-  pub not_found : length rows ≤ i → None ≡ place p q (map plain rows)
-  not_found h = sym (inv ∙ ap (place_from i p q) (no_row rows i h))
-
--- the loop that finds a process
-module _ (rows : List Row) (p i : ℕ) (inv : has_process p (map plain rows) ≡ has_process p (map plain (drop i rows))) where
-  process_turn : (x : Row) → x ≡ get_or rows i x → i < length rows → has_process p (map plain rows) ≡ (eqb x.process p || has_process p (map plain (drop (i + 1) rows)))
-  process_turn x e h = inv ∙ ap (has_process p) (next_row rows i x e h)
-
-  pub process_found : (x : Row) → x ≡ get_or rows i x → i < length rows → true ≡ eqb x.process p → true ≡ has_process p (map plain rows)
-  process_found x e h t = sym (process_turn x e h ∙ or_left (eqb x.process p) _ (sym t))
-
-  pub process_passed : (x : Row) → x ≡ get_or rows i x → i < length rows → false ≡ eqb x.process p → has_process p (map plain rows) ≡ has_process p (map plain (drop (i + 1) rows))
-  process_passed x e h t = process_turn x e h ∙ ap (λ (b : Bool). b || has_process p (map plain (drop (i + 1) rows))) (sym t)
-
-  pub process_not_found : length rows ≤ i → false ≡ has_process p (map plain rows)
-  process_not_found h = sym (inv ∙ ap (has_process p) (no_row rows i h))
+pub any_has : (p : ℕ) (rows : List Row) → list_any (λ r. eqb r.process p) rows ≡ has_process p (map plain rows)
+any_has p [] = refl
+any_has p (r ∷ rs) = ap (λ (b : Bool). eqb r.process p || b) (any_has p rs)
 
 -- which rows have the process
 some_has : (p : ℕ) (rows : List PlainRow) → has_process p rows ≡ true → TellsProcess p rows true

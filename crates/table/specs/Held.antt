@@ -1,11 +1,11 @@
 -- What a table holds.
-use Rattle.std.specs.Prelude.{ℕ, List, map, take}
+use Rattle.std.specs.Prelude.{ℕ, List, map}
 use Rattle.table.specs.declared.Table.{Table}
 use Rattle.table.specs.Rows.{PlainRow, plain}
 
 -- the rows that stand
 abbrev pub rows_of : Table → List PlainRow
-rows_of t = map plain (take t.count t.slots)
+rows_of t = map plain t.rows.items
 
 -- the limits of the feeds 1 to 8, in ml/min
 abbrev pub limits_of : Table → List ℕ

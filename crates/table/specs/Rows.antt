@@ -116,16 +116,3 @@ reset_row = record {
   flow = 0;
   text = [];
 }
-
--- char 0 to 255, default 82
-abbrev pub is_reset_kind : Kind → Bool
-is_reset_kind (Char r) = r.least == 0 && (r.greatest == 255 && r.«default» == 82)
-is_reset_kind (Integer r) = false
-is_reset_kind (Long r) = false
-is_reset_kind (Float r) = false
-is_reset_kind (Text n) = false
-is_reset_kind OpenText = false
-
--- what makes a row that keeps the rules the reset row: process 0, parameter 10, char 0 to 255, default 82, readable, writable, not secured
-abbrev pub is_reset : PlainRow → Bool
-is_reset r = has_pair 0 10 r && (is_reset_kind r.kind && (r.readable && (r.writable && not r.secured)))

@@ -63,6 +63,7 @@ Supplied rows limits = (f : ℕ) → 1 ≤ f → f ≤ 8 → within f rows limit
 pub record Ruled (rows : List PlainRow) (limits : List ℕ) : Type 0 where
   pub some : 1 ≤ length rows
   pub few : length rows ≤ 128
+  -- row 0 is the reset row
   pub first : row_at rows 0 ≡ reset_row
   pub lawful : all_keep_rules rows ≡ true
   pub distinct : apart rows ≡ true

@@ -19,17 +19,16 @@ impl Row {
         if self.feed != feed {
             return 0;
         }
-        value as u64 * self.full_flow as u64
+        u64::from(value) * u64::from(self.full_flow)
     }
 
     // The number that the default counts in a draw.
     pub(crate) fn default_number(&self) -> u16
         ensures { result ≡ number_of (default_bytes (plain self.now)) }
     {
-        match self.default_value() {
-            Some(value) => u16::read(value.as_slice()).unwrap_or(0),
-            None => 0,
-        }
+        self.default_value()
+            .and_then(|value| u16::read(value.as_slice()))
+            .unwrap_or(0)
     }
 }
 
@@ -37,10 +36,10 @@ impl Row {
 pub(crate) fn within_limit(draw: u64, limit: u32) -> bool
     ensures { result ≡ nat_le draw (limit * 32000) }
 {
-    draw <= limit as u64 * FULL_SCALE
+    draw <= u64::from(limit) * FULL_SCALE
 }
 
-// The draw of a feed where row i has the value `values[i]`.
+// The draw of a feed where row i has the value `values[i]`. By the project's form a loop over the rows with their numbers.
 fn draw_of(rows: &[Row], feed: u8, values: &RowNumbers) -> u64
     requires { length rows.now ≤ 128 }
     ensures value { result ≡ draw feed (map plain rows.now) (λ k. slice_index values.now k) }
@@ -53,7 +52,8 @@ fn draw_of(rows: &[Row], feed: u8, values: &RowNumbers) -> u64
     sum
 }
 
-// The default of each row as the number that it counts in a draw.
+// The default of each row as the number that it counts in a draw. Not by `array::from_fn`: with its closure the checker proves the
+// crate, but cannot write down for other crates what it proves.
 fn default_numbers(rows: &[Row]) -> RowNumbers
     requires { length rows.now ≤ 128 }
     ensures { (k : ℕ) → k < length rows.now → slice_index result k ≡ default_numbers (map plain rows.now) k }
@@ -71,7 +71,7 @@ impl Table {
         ensures value { result ≡ draw feed (rows_of self.now) (λ k. slice_index values.now k) }
         ensures once { CountsEachOnce (rows_of self.now) }
     {
-        draw_of(self.rows(), feed, values)
+        draw_of(&self.rows, feed, values)
     }
 
     // The draw of a feed at the defaults.

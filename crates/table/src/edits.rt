@@ -1,32 +1,36 @@
 // Making a table, setting limits and adding rows.
-ghost use Rattle.std.specs.Prelude.{◌≡◌, ◌-◌, [], ◌∷◌, length, replicate, nat_le, slice_set};
+ghost use Rattle.std.specs.Prelude.{◌≡◌, ◌-◌, [], ◌∷◌, replicate, slice_set};
 ghost use Rattle.table.specs.Rows.{plain, reset_row};
 ghost use Rattle.table.specs.Refusals.{added, has_room, add_refusal, limit_refusal, answer, after};
 ghost use Rattle.table.specs.Held.{rows_of, limits_of};
 
 use crate::draws::within_limit;
-use crate::{AddRefusal, FEEDS, Kind, LimitRefusal, MAX_FLOW, MAX_ROWS, Row, Table};
+use crate::lookups::feed_place;
+use crate::{AddRefusal, FEEDS, Kind, LimitRefusal, MAX_FLOW, Row, Table};
+use arrayvec::ArrayVec;
 use number::Range;
 use value::Value;
 
-// Row 0 of every table.
-fn reset_row() -> Row
-    ensures { plain result ≡ reset_row }
-{
-    Row {
-        process: 0,
-        parameter: 10,
-        kind: Kind::Char(Range {
-            least: 0,
-            greatest: 255,
-            default: 82,
-        }),
-        readable: true,
-        writable: true,
-        secured: false,
-        feed: 0,
-        full_flow: 0,
-        text: Value::empty(),
+/// The reset row, row 0 of every table.
+impl Default for Row {
+    ghost is_default = { λ r. plain r ≡ reset_row };
+
+    fn default() -> Row {
+        Row {
+            process: 0,
+            parameter: 10,
+            kind: Kind::Char(Range {
+                least: 0,
+                greatest: 255,
+                default: 82,
+            }),
+            readable: true,
+            writable: true,
+            secured: false,
+            feed: 0,
+            full_flow: 0,
+            text: Value::empty(),
+        }
     }
 }
 
@@ -36,9 +40,10 @@ impl Table {
         ensures rows { rows_of result ≡ reset_row ∷ [] }
         ensures limits { limits_of result ≡ replicate 8 0 }
     {
+        let mut rows = ArrayVec::new();
+        rows.push(Row::default());
         Table {
-            slots: [reset_row(); MAX_ROWS],
-            count: 1,
+            rows,
             limits: [0; FEEDS],
         }
     }
@@ -50,13 +55,14 @@ impl Table {
         ensures rows { rows_of self.new ≡ rows_of self.old }
         ensures limits { limits_of self.new ≡ after (limit_refusal (rows_of self.old) feed limit) (slice_set (limits_of self.old) (feed - 1) limit) (limits_of self.old) }
     {
-        if feed == 0 || feed as usize > FEEDS || limit > MAX_FLOW {
+        let place = feed_place(feed).ok_or(LimitRefusal::OutOfRange)?;
+        if limit > MAX_FLOW {
             return Err(LimitRefusal::OutOfRange);
         }
         if !within_limit(self.default_draw(feed), limit) {
             return Err(LimitRefusal::BelowDraw);
         }
-        self.limits[feed as usize - 1] = limit;
+        self.limits[place] = limit;
         Ok(())
     }
 
@@ -67,38 +73,28 @@ impl Table {
         ensures rows { rows_of self.new ≡ after (add_refusal (rows_of self.old) (limits_of self.old) (plain row)) (added (rows_of self.old) (plain row)) (rows_of self.old) }
         ensures limits { limits_of self.new ≡ limits_of self.old }
     {
-        match self.refusal(&row) {
-            Some(refusal) => Err(refusal),
-            None => {
-                self.slots[self.count] = row;
-                self.count += 1;
-                Ok(())
-            }
-        }
+        self.check(&row)?;
+        self.rows.push(row);
+        Ok(())
     }
 
-    // Why the row is not added, if it is not.
-    fn refusal(&self, row: &Row) -> Option<AddRefusal>
-        ensures { result ≡ add_refusal (rows_of self.now) (limits_of self.now) (plain row.now) }
+    // Whether the row may be added, and why not.
+    fn check(&self, row: &Row) -> Result<(), AddRefusal>
+        ensures { result ≡ answer (add_refusal (rows_of self.now) (limits_of self.now) (plain row.now)) }
     {
         if !row.keeps_rules() {
-            Some(AddRefusal::AgainstRules)
-        } else if self.is_full() {
-            Some(AddRefusal::TableFull)
-        } else if self.takes_pair(row.process, row.parameter) {
-            Some(AddRefusal::PairTaken)
-        } else if !self.has_room(row) {
-            Some(AddRefusal::OverLimit)
-        } else {
-            None
+            return Err(AddRefusal::AgainstRules);
         }
-    }
-
-    // Whether 128 rows stand.
-    fn is_full(&self) -> bool
-        ensures { result ≡ nat_le 128 (length (rows_of self.now)) }
-    {
-        self.len() >= MAX_ROWS
+        if self.rows.is_full() {
+            return Err(AddRefusal::TableFull);
+        }
+        if self.takes_pair(row.process, row.parameter) {
+            return Err(AddRefusal::PairTaken);
+        }
+        if !self.has_room(row) {
+            return Err(AddRefusal::OverLimit);
+        }
+        Ok(())
     }
 
     // Whether the row's default leaves its feed within the limit.
@@ -106,10 +102,10 @@ impl Table {
         ensures { result ≡ has_room (rows_of self.now) (limits_of self.now) (plain row.now) }
     {
         let feed = row.feed;
-        if feed == 0 {
-            return true;
-        }
-        let own = row.amount(feed, row.default_number());
-        within_limit(self.default_draw(feed) + own, self.limit_or_zero(feed))
+        feed == 0
+            || within_limit(
+                self.default_draw(feed) + row.amount(feed, row.default_number()),
+                self.limit_or_zero(feed),
+            )
     }
 }

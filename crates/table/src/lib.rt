@@ -1,11 +1,13 @@
 //! The table of a rack: its parameters, one to a row, and the feeds that some of them draw on.
 #![tactic(auto)]
 
-ghost use Rattle.std.specs.Prelude.{◌≡◌, ◌≤◌, true, map, length, take};
-ghost use Rattle.table.specs.Rows.{plain, is_reset};
-ghost use Rattle.table.specs.Draws.{row_at};
-ghost use Rattle.table.specs.Tables.{all_keep_rules, apart, Capped, Supplied};
+ghost use Rattle.std.specs.Prelude.{map};
+ghost use Rattle.std.proofs.Props.{props};
+ghost use Rattle.value.proofs.Facts.{Bytes-prop};
+ghost use Rattle.table.specs.Rows.{plain};
+ghost use Rattle.table.specs.Tables.{Ruled};
 
+use arrayvec::ArrayVec;
 use number::Range;
 use value::Value;
 
@@ -20,7 +22,7 @@ pub use refusals::{AddRefusal, LimitRefusal};
 /// The most rows that a table has.
 pub const MAX_ROWS: usize = 128;
 
-/// A number for each row, row i's at place i.
+/// A number for each row, row i's at place i, in fixed memory.
 pub type RowNumbers = [u16; MAX_ROWS];
 
 /// How many feeds there are: they are numbered from 1.
@@ -47,6 +49,7 @@ pub enum Kind {
 }
 
 /// A row as it is handed to `Table::add`, which judges it.
+// What goes together stands apart, as a feed and its flow, so that a row against the rules can be handed in.
 #[derive(Clone, Copy)]
 pub struct Row {
     /// The process, 0 to 127.
@@ -72,24 +75,8 @@ pub struct Row {
 /// Rows, numbered from 0 in the order of adding, and the limit of each feed. Every table keeps all its rules, always.
 #[derive(Drop)]
 pub struct Table {
-    // The first `count` are the rows that stand.
-    slots: [Row; MAX_ROWS],
-    count: usize,
+    rows: ArrayVec<Row, MAX_ROWS>,
     // In ml/min, of the feeds 1 to 8.
     limits: [u32; FEEDS],
-    ghost slotted: { length slots ≡ 128 },
-    ghost counted: { length (map plain (take count slots)) ≡ count },
-    ghost some: { 1 ≤ count },
-    ghost few: { count ≤ 128 },
-    // Row 0 is the reset row.
-    ghost first: { is_reset (row_at (map plain (take count slots)) 0) ≡ true },
-    // Every row keeps the rules that speak of it alone.
-    ghost lawful: { all_keep_rules (map plain (take count slots)) ≡ true },
-    // No two rows have the same process and parameter.
-    ghost distinct: { apart (map plain (take count slots)) ≡ true },
-    ghost eight: { length limits ≡ 8 },
-    // Every limit is at most 1,000,000.
-    ghost capped: { Capped limits },
-    // The defaults keep every feed within its limit.
-    ghost supplied: { Supplied (map plain (take count slots)) limits },
+    ghost ruled: { Ruled (map plain rows.items) limits } by { Prim.hlevel (props, Bytes-prop) },
 }

@@ -3,25 +3,25 @@ ghost use Rattle.std.specs.Prelude.{◌≡◌};
 ghost use Rattle.table.specs.Refusals.{add_number, limit_number};
 
 /// Why a row is not added.
-#[derive(Clone, Copy)]
+#[derive(Clone, Copy, PartialEq, Eq, Debug)]
 pub enum AddRefusal {
-    /// 2: the row is against the rules.
-    AgainstRules,
-    /// 3: a row with its process and parameter stands.
-    PairTaken,
-    /// 4: 128 rows stand.
-    TableFull,
-    /// 6: its default would take its feed over the limit.
-    OverLimit,
+    /// The row is against the rules.
+    AgainstRules = 2,
+    /// A row with its process and parameter stands.
+    PairTaken = 3,
+    /// 128 rows stand.
+    TableFull = 4,
+    /// Its default would take its feed over the limit.
+    OverLimit = 6,
 }
 
 /// Why a feed's limit is not set.
-#[derive(Clone, Copy)]
+#[derive(Clone, Copy, PartialEq, Eq, Debug)]
 pub enum LimitRefusal {
-    /// 5: the feed is not 1 to 8, or the limit is over 1,000,000.
-    OutOfRange,
-    /// 6: the defaults draw more.
-    BelowDraw,
+    /// The feed is not 1 to 8, or the limit is over 1,000,000.
+    OutOfRange = 5,
+    /// The defaults draw more.
+    BelowDraw = 6,
 }
 
 impl AddRefusal {
@@ -29,12 +29,7 @@ impl AddRefusal {
     pub fn number(self) -> u8
         ensures { result ≡ add_number self }
     {
-        match self {
-            AddRefusal::AgainstRules => 2,
-            AddRefusal::PairTaken => 3,
-            AddRefusal::TableFull => 4,
-            AddRefusal::OverLimit => 6,
-        }
+        self as u8
     }
 }
 
@@ -43,9 +38,6 @@ impl LimitRefusal {
     pub fn number(self) -> u8
         ensures { result ≡ limit_number self }
     {
-        match self {
-            LimitRefusal::OutOfRange => 5,
-            LimitRefusal::BelowDraw => 6,
-        }
+        self as u8
     }
 }

@@ -4,7 +4,8 @@ ghost use Rattle.std.specs.Option.{option_map};
 ghost use Rattle.value.specs.Values.{bytes_of};
 ghost use Rattle.table.specs.Rows.{plain, is_open_text, admitted, kind_ruled, feed_ruled, keeps_rules, default_of, ReadsDefault};
 
-use crate::{FEEDS, Kind, MAX_FLOW, Row};
+use crate::lookups::feed_place;
+use crate::{Kind, MAX_FLOW, Row};
 use number::Number;
 use value::{MAX_LEN, Value};
 
@@ -32,12 +33,15 @@ impl Row {
         ensures { result ≡ kind_ruled self.now.kind (bytes_of self.now.text) }
     {
         let text = self.text.as_slice();
+        // Here and below each kind of number has an arm: its range is of another type, which no or-pattern binds.
         match self.kind {
             Kind::Char(range) => range.lawful() && text.is_empty(),
             Kind::Integer(range) => range.lawful() && text.is_empty(),
             Kind::Long(range) => range.lawful() && text.is_empty(),
             Kind::Float(range) => range.lawful() && text.is_empty(),
-            Kind::Text { len } => 1 <= len && len as usize <= MAX_LEN && text.len() == len as usize,
+            Kind::Text { len } => {
+                (1..=MAX_LEN).contains(&text.len()) && text.len() == usize::from(len)
+            }
             Kind::OpenText => is_open_text(text),
         }
     }
@@ -50,9 +54,8 @@ impl Row {
             return self.full_flow == 0;
         }
         matches!(self.kind, Kind::Integer(_))
-            && self.feed as usize <= FEEDS
-            && 1 <= self.full_flow
-            && self.full_flow <= MAX_FLOW
+            && feed_place(self.feed).is_some()
+            && (1..=MAX_FLOW).contains(&self.full_flow)
     }
 
     /// Whether the bytes are a value of the row: a number in its range, or a text of its shape.
@@ -64,7 +67,7 @@ impl Row {
             Kind::Integer(range) => range.admits(bytes),
             Kind::Long(range) => range.admits(bytes),
             Kind::Float(range) => range.admits(bytes),
-            Kind::Text { len } => bytes.len() == len as usize,
+            Kind::Text { len } => bytes.len() == usize::from(len),
             Kind::OpenText => is_open_text(bytes),
         }
     }
@@ -79,8 +82,7 @@ impl Row {
             Kind::Integer(range) => range.default.write(),
             Kind::Long(range) => range.default.write(),
             Kind::Float(range) => range.default.write(),
-            Kind::Text { .. } => Some(self.text),
-            Kind::OpenText => Some(self.text),
+            Kind::Text { .. } | Kind::OpenText => Some(self.text),
         }
     }
 }

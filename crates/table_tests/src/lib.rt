@@ -5,25 +5,18 @@
 mod tests {
     use number::{Number, Range};
     use std::test::Fail;
-    use table::{Kind, Row, Table};
+    use table::{AddRefusal, Kind, LimitRefusal, Row, Table};
     use value::Value;
 
     // A row that keeps the rules, but perhaps for its kind.
     fn row(parameter: u8, kind: Kind, text: &[u8]) -> Row {
-        let text = match Value::new(text) {
-            Some(value) => value,
-            None => Value::empty(),
-        };
         Row {
             process: 1,
             parameter,
             kind,
-            readable: true,
             writable: false,
-            secured: false,
-            feed: 0,
-            full_flow: 0,
-            text,
+            text: Value::new(text).unwrap_or(Value::empty()),
+            ..Row::default()
         }
     }
 
@@ -34,10 +27,11 @@ mod tests {
             greatest: 65_535,
             default,
         };
-        let mut row = row(parameter, Kind::Integer(range), b"");
-        row.feed = feed;
-        row.full_flow = full_flow;
-        row
+        Row {
+            feed,
+            full_flow,
+            ..row(parameter, Kind::Integer(range), b"")
+        }
     }
 
     fn float(least: f32, greatest: f32, default: f32) -> Kind {
@@ -48,19 +42,14 @@ mod tests {
         })
     }
 
-    // The number of the refusal, or 0.
-    fn add(table: &mut Table, row: Row) -> u8 {
-        match table.add(row) {
-            Ok(()) => 0,
-            Err(refusal) => refusal.number(),
-        }
+    // Adds a row, or tells the number of the refusal.
+    fn add(table: &mut Table, row: Row) -> Result<(), u8> {
+        table.add(row).map_err(AddRefusal::number)
     }
 
-    fn set_limit(table: &mut Table, feed: u8, limit: u32) -> u8 {
-        match table.set_limit(feed, limit) {
-            Ok(()) => 0,
-            Err(refusal) => refusal.number(),
-        }
+    // Sets a limit, or tells the number of the refusal.
+    fn set_limit(table: &mut Table, feed: u8, limit: u32) -> Result<(), u8> {
+        table.set_limit(feed, limit).map_err(LimitRefusal::number)
     }
 
     #[test]
@@ -92,34 +81,34 @@ mod tests {
     fn rules_of_rows(rt: HostRuntime) {
         let nan = f32::NAN;
         let cases = [
-            (row(0, float(0.0, 1000.0, 500.0), b""), 0),
-            (row(1, float(nan, 1000.0, 500.0), b""), 2),
-            (row(1, float(0.0, nan, 500.0), b""), 2),
-            (row(1, float(0.0, 1000.0, nan), b""), 2),
-            (row(1, float(0.0, 1000.0, 500.0), b"x"), 2),
-            (row(2, Kind::Text { len: 0 }, b""), 2),
-            (row(2, Kind::Text { len: 1 }, b"\x00"), 0),
+            (row(0, float(0.0, 1000.0, 500.0), b""), Ok(())),
+            (row(1, float(nan, 1000.0, 500.0), b""), Err(2)),
+            (row(1, float(0.0, nan, 500.0), b""), Err(2)),
+            (row(1, float(0.0, 1000.0, nan), b""), Err(2)),
+            (row(1, float(0.0, 1000.0, 500.0), b"x"), Err(2)),
+            (row(2, Kind::Text { len: 0 }, b""), Err(2)),
+            (row(2, Kind::Text { len: 1 }, b"\x00"), Ok(())),
             (
                 row(3, Kind::Text { len: 24 }, b"abcdefghijklmnopqrstuvwx"),
-                0,
+                Ok(()),
             ),
             (
                 row(4, Kind::Text { len: 24 }, b"abcdefghijklmnopqrstuvw"),
-                2,
+                Err(2),
             ),
             (
                 row(4, Kind::Text { len: 25 }, b"abcdefghijklmnopqrstuvwx"),
-                2,
+                Err(2),
             ),
-            (row(5, Kind::OpenText, b""), 0),
-            (row(6, Kind::OpenText, b"HALL"), 0),
-            (row(7, Kind::OpenText, b"HA\x00L"), 2),
-            (row(31, Kind::OpenText, b""), 0),
-            (row(32, Kind::OpenText, b""), 2),
+            (row(5, Kind::OpenText, b""), Ok(())),
+            (row(6, Kind::OpenText, b"HALL"), Ok(())),
+            (row(7, Kind::OpenText, b"HA\x00L"), Err(2)),
+            (row(31, Kind::OpenText, b""), Ok(())),
+            (row(32, Kind::OpenText, b""), Err(2)),
         ];
         let mut table = Table::new();
-        for (row, number) in cases {
-            assert_eq!(rt; add(&mut table, row), number);
+        for (row, told) in cases {
+            assert_eq!(rt; add(&mut table, row), told);
         }
         assert_eq!(rt; table.len(), 7);
     }
@@ -148,23 +137,25 @@ mod tests {
         let mut table = Table::new();
         assert_eq!(rt;
             add(&mut table, drawing(0, 8, 1_000_000, 1)),
-            6,
+            Err(6),
             "the limit is 0"
         );
-        for (feed, limit, number) in [(0, 1, 5), (9, 1, 5), (8, 1_000_001, 5), (8, 1_000_000, 0)] {
-            assert_eq!(rt; set_limit(&mut table, feed, limit), number);
-        }
-        for (feed, full_flow, number) in [
-            (9, 1, 2),
-            (8, 0, 2),
-            (8, 1_000_001, 2),
-            (0, 1, 2),
-            (8, 1_000_000, 0),
+        for (feed, limit, told) in [
+            (0, 1, Err(5)),
+            (9, 1, Err(5)),
+            (8, 1_000_001, Err(5)),
+            (8, 1_000_000, Ok(())),
         ] {
-            assert_eq!(rt;
-                add(&mut table, drawing(0, feed, full_flow, 32_000)),
-                number
-            );
+            assert_eq!(rt; set_limit(&mut table, feed, limit), told);
+        }
+        for (feed, full_flow, told) in [
+            (9, 1, Err(2)),
+            (8, 0, Err(2)),
+            (8, 1_000_001, Err(2)),
+            (0, 1, Err(2)),
+            (8, 1_000_000, Ok(())),
+        ] {
+            assert_eq!(rt; add(&mut table, drawing(0, feed, full_flow, 32_000)), told);
         }
         assert_eq!(rt; table.limit(8), Some(1_000_000));
         assert_eq!(rt; table.limit(9), None);
@@ -173,15 +164,15 @@ mod tests {
     #[test]
     fn limits_at_the_draw(rt: HostRuntime) {
         let mut table = Table::new();
-        assert_eq!(rt; set_limit(&mut table, 1, 41), 0);
+        assert_eq!(rt; set_limit(&mut table, 1, 41), Ok(()));
         // The default 32,000 at a full flow of 40 draws just what the limit 40 allows.
-        assert_eq!(rt; add(&mut table, drawing(0, 1, 40, 32_000)), 0);
-        for (limit, number) in [(39, 6), (40, 0), (0, 6)] {
-            assert_eq!(rt; set_limit(&mut table, 1, limit), number);
+        assert_eq!(rt; add(&mut table, drawing(0, 1, 40, 32_000)), Ok(()));
+        for (limit, told) in [(39, Err(6)), (40, Ok(())), (0, Err(6))] {
+            assert_eq!(rt; set_limit(&mut table, 1, limit), told);
         }
         assert_eq!(rt; table.limit(1), Some(40));
-        assert_eq!(rt; add(&mut table, drawing(1, 1, 1, 1)), 6);
-        assert_eq!(rt; add(&mut table, drawing(1, 1, 1_000_000, 0)), 0);
+        assert_eq!(rt; add(&mut table, drawing(1, 1, 1, 1)), Err(6));
+        assert_eq!(rt; add(&mut table, drawing(1, 1, 1_000_000, 0)), Ok(()));
         let mut values = [0; 128];
         values[1] = 32_000;
         assert!(rt; table.is_within(1, &values));
@@ -195,15 +186,17 @@ mod tests {
     fn as_many_as_128_rows(rt: HostRuntime) -> Result<(), Fail> {
         let mut table = Table::new();
         for parameter in 0..127 {
-            let mut row = row(parameter % 32, Kind::OpenText, b"");
-            row.process = 1 + parameter / 32;
-            assert_eq!(rt; add(&mut table, row), 0);
+            let row = Row {
+                process: 1 + parameter / 32,
+                ..row(parameter % 32, Kind::OpenText, b"")
+            };
+            assert_eq!(rt; add(&mut table, row), Ok(()));
         }
         assert_eq!(rt; table.len(), 128);
-        assert_eq!(rt; add(&mut table, row(32, Kind::OpenText, b"")), 2);
+        assert_eq!(rt; add(&mut table, row(32, Kind::OpenText, b"")), Err(2));
         assert_eq!(rt;
             add(&mut table, row(0, Kind::OpenText, b"")),
-            4,
+            Err(4),
             "the pair is taken too"
         );
         for (process, parameter, number) in [
@@ -217,26 +210,42 @@ mod tests {
         assert!(rt; table.has_process(4) && !table.has_process(5));
         assert!(rt; table.row(127).is_some() && table.row(128).is_none());
         assert!(rt; table.default_value(128).is_none());
-        match table.default_value(0) {
-            Some(value) => {
-                assert_eq!(rt; value.as_slice(), [82].as_slice());
+        let value = table
+            .default_value(0)
+            .ok_or_else(|| Fail::new("row 0 has a default"))?;
+        assert_eq!(rt; value.as_slice(), [82].as_slice());
+        Ok(())
+    }
+
+    #[test]
+    fn rows_in_the_order_of_adding(rt: HostRuntime) {
+        let mut table = Table::new();
+        for parameter in [7, 3] {
+            assert_eq!(rt;
+                add(&mut table, row(parameter, Kind::OpenText, b"")),
                 Ok(())
-            }
-            None => Err(Fail::new("row 0 has a default")),
+            );
         }
+        let rows = table.rows();
+        assert_eq!(rt; rows.len(), 3);
+        for (row, parameter) in rows.iter().zip([10, 7, 3]) {
+            assert_eq!(rt; row.parameter, parameter);
+        }
+        let reset = Row::default();
+        assert_eq!(rt; (reset.process, reset.parameter), (0, 10));
+        assert!(rt; reset.keeps_rules());
     }
 
     #[test]
     fn taken_pairs(rt: HostRuntime) {
         let mut table = Table::new();
-        let mut reset = row(10, Kind::OpenText, b"");
-        reset.process = 0;
-        assert_eq!(rt; add(&mut table, reset), 3);
-        reset.process = 128;
-        assert_eq!(rt; add(&mut table, reset), 2);
-        reset.process = 127;
-        assert_eq!(rt; add(&mut table, reset), 0);
-        assert_eq!(rt; add(&mut table, reset), 3);
+        for (process, told) in [(0, Err(3)), (128, Err(2)), (127, Ok(())), (127, Err(3))] {
+            let row = Row {
+                process,
+                ..row(10, Kind::OpenText, b"")
+            };
+            assert_eq!(rt; add(&mut table, row), told);
+        }
         assert_eq!(rt; table.len(), 2);
     }
 }

@@ -1,6 +1,7 @@
 -- What holds of every value, and of one that was made.
 use Rattle.std.proofs.Common.{◌≡◌, ℕ, suc, ◌<◌, ◌≤◌, true, false, leb, List, [], ◌∷◌, length, get_or, Some, ⊎_elim, arith, length-take, leb-true}
 use Rattle.std.proofs.lemmas.Bool.{cases_Bool}
+use Rattle.std.specs.Coded.{×_prop, Unit-prop, le_prop}
 use Rattle.value.specs.declared.Value.{Value}
 use Rattle.value.specs.Values.{Bytes, bytes_of, value_of}
 
@@ -10,6 +11,11 @@ value_short v = simp length-take (omega arith)
 pub bytes_from_places : (bs : List ℕ) → ((k : ℕ) → get_or bs k 0 < 256) → Bytes bs
 bytes_from_places [] h = tt
 bytes_from_places (b ∷ bs) h = (h 0, bytes_from_places bs (λ k. h (suc k)))
+
+-- that some numbers are bytes has one proof
+pub Bytes-prop : (bs : List ℕ) → IsProp (Bytes bs)
+Bytes-prop [] = Unit-prop
+Bytes-prop (b ∷ bs) = ×_prop le_prop (Bytes-prop bs)
 
 pub value_bytes : (v : Value) → Bytes (bytes_of v)
 value_bytes v = bytes_from_places (bytes_of v) v.octets

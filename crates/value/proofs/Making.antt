@@ -1,11 +1,11 @@
 -- The front of an array, once some bytes are copied there.
-use Rattle.std.proofs.Common.{◌≡◌, ℕ, ◌-◌, ◌<◌, ◌≤◌, cond, List, ◌++◌, length, get_or, take, drop, Some, None, sym, ap, ◌∙◌, arith, length-append, length-drop, take_at, w8, Fits, le-leb}
+use Rattle.std.proofs.Common.{◌≡◌, ℕ, ◌<◌, ◌≤◌, cond, List, ◌++◌, length, get_or, take, drop, Some, None, sym, ap, ◌∙◌, arith, length-append, length-drop, take_at, w8, Fits, le-leb}
 use Rattle.value.specs.Values.{value_of}
 
 pub front : (a rest from : List ℕ) → a ≡ from → take (length from) (a ++ rest) ≡ from
 front a rest from e = take_at a rest (length from) (ap length e) ∙ e
 
-pub filled : (a from before : List ℕ) → a ≡ from → length from ≤ length before → length (a ++ drop (length from - 0) before) ≡ length before
+pub filled : (a from before : List ℕ) → a ≡ from → length from ≤ length before → length (a ++ drop (length from) before) ≡ length before
 filled a from before e h = simp (length-append, length-drop) (omega (arith, ap length e))
 
 pub front_octets : (a rest from : List ℕ) → a ≡ from → ((k : ℕ) → Fits w8 (get_or from k 0)) → (k : ℕ) → get_or (take (length from) (a ++ rest)) k 0 < 256

@@ -25,7 +25,7 @@ impl Value {
             return None;
         }
         let mut bytes = [0; MAX_LEN];
-        bytes[0..len].copy_from_slice(from);
+        bytes[..len].copy_from_slice(from);
         Some(Value {
             bytes,
             len: len as u8,
@@ -37,7 +37,7 @@ impl Value {
         ensures value { result.now ≡ bytes_of self.now }
         ensures bound { length result.now ≤ 24 }
     {
-        &self.bytes[0..self.len as usize]
+        &self.bytes[..self.len()]
     }
 
     /// How many bytes the value has.
@@ -45,7 +45,7 @@ impl Value {
         ensures value { result ≡ length (bytes_of self.now) }
         ensures bound { result ≤ 24 }
     {
-        self.len as usize
+        usize::from(self.len)
     }
 }
 
@@ -57,7 +57,7 @@ mod tests {
     fn at_most_24_bytes(rt: HostRuntime) {
         let bytes = b"\xff\x00abcdefghijklmnopqrstuvw";
         for len in [0usize, 1, 23, 24, 25] {
-            let from = &bytes[0..len];
+            let from = &bytes[..len];
             match Value::new(from) {
                 Some(value) => {
                     assert!(rt; len <= MAX_LEN);

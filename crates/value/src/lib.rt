@@ -9,6 +9,7 @@ mod calls;
 pub const MAX_LEN: usize = 24;
 
 /// The value of a parameter: 0 to 24 bytes, the first `len` of the array.
+// It is copied with the rows and the cells that hold it, and an `ArrayVec` is not `Copy`.
 #[derive(Clone, Copy)]
 pub struct Value {
     bytes: [u8; MAX_LEN],

@@ -1,6 +1,6 @@
-use Rattle.std.proofs.Common.{sym, ◌∙◌}
-use Rattle.number.proofs.Ranges.{as_read}
+use Rattle.std.proofs.Common.{rules}
+use Rattle.number.proofs.Ranges.{as_checked}
 use Rattle.number.proofs.Range.admits.Goals as goal
 
-pub returns-in-Some : goal.returns-in-Some
-returns-in-Some g c = c.holds.ensures ∙ sym (as_read _ g.met.N.Number.lawful c.args.self.now _ c.in-Some.n (sym c.in-Some.ensures))
+pub returns : goal.returns
+returns g c = as_checked g.N.Number.kind g.met.N.Number.lawful c.args.self.now c.args.bytes.now _ _ (λ n h. search rules) _ c.read.ensures c.is_some_and.ensures

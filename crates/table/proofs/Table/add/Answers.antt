@@ -1,41 +1,25 @@
-use Rattle.std.proofs.Common.{◌+◌, sym, refl, ◌∙◌, subst, arith, length-set}
+use Rattle.std.proofs.Common.{List, map, sym, ap, ◌∙◌, subst, arith}
+use Rattle.std.proofs.lemmas.List.{map_push}
+use Rattle.table.specs.declared.Row.{Row}
 use Rattle.table.specs.Rows.{plain}
 use Rattle.table.specs.Refusals.{added, add_refusal}
-use Rattle.table.specs.Held.{rows_of}
-use Rattle.table.proofs.Facts.{Kept, kept}
-use Rattle.table.proofs.Adding.{place_free, rows_added, kept_added, none_told}
+use Rattle.table.specs.Tables.{Ruled}
+use Rattle.table.specs.Held.{rows_of, limits_of}
+use Rattle.table.proofs.Adding.{place_free, ruled_more, not_refused, stays, changes}
 use Rattle.table.proofs.Table.add.Goals as goal
 
-pub listed : goal.listed
-listed c = let t = c.args.self.now in omega (arith, place_free t.count t.limits (rows_of t) (plain c.args.row) (kept t) c.in-None.ensures, t.slotted)
+pub returns-in_err-check-clause-rows : goal.returns-in_err-check-clause-rows
+returns-in_err-check-clause-rows c = let t = c.args.self.now in stays (add_refusal (rows_of t) (limits_of t) (plain c.args.row)) (added (rows_of t) (plain c.args.row)) (rows_of t) c.in_err-check.ensures
 
-pub bounds-self-self : goal.bounds-self-self
-bounds-self-self c = let t = c.args.self.now in place_free t.count t.limits (rows_of t) (plain c.args.row) (kept t) c.in-None.ensures
+pub push-requires : goal.push-requires
+push-requires c = let t = c.args.self.now in (omega arith, place_free t.rows.items t.limits c.args.row t.ruled (not_refused _ c.in_ok-check.ensures))
 
 pub invariant_of-self : goal.invariant_of-self
 invariant_of-self c =
     let t = c.args.self.now in
-    let e = c.in-None.ensures in
-    let free = place_free t.count t.limits (rows_of t) (plain c.args.row) (kept t) e in
-    let k = subst (Kept (t.count + 1) t.limits) (sym (rows_added t.slots t.count c.args.row (omega (arith, t.slotted)))) (kept_added t.count t.limits (rows_of t) (plain c.args.row) (kept t) e) in
-    record {
-      slotted = simp length-set t.slotted;
-      counted = k.counted;
-      some = k.some;
-      few = k.few;
-      first = k.first;
-      lawful = k.lawful;
-      distinct = k.distinct;
-      eight = k.eight;
-      capped = k.capped;
-      supplied = k.supplied;
-    }
+    record { ruled = subst (λ (rows : List Row). Ruled (map plain rows) t.limits) (sym c.push.ensures.items) (ruled_more t.rows.items t.limits c.args.row t.ruled (not_refused _ c.in_ok-check.ensures)) }
 
-pub returns-in-None : goal.returns-in-None
-returns-in-None c =
+pub returns-clause-rows : goal.returns-clause-rows
+returns-clause-rows c =
     let t = c.args.self.now in
-    let r = plain c.args.row in
-    let e = c.in-None.ensures in
-    let free = place_free t.count t.limits (rows_of t) r (kept t) e in
-    let h = none_told (add_refusal (rows_of t) t.limits r) (added (rows_of t) r) (rows_of t) e in
-    record { value = h.0; rows = rows_added t.slots t.count c.args.row (omega (arith, t.slotted)) ∙ h.1; limits = refl }
+    ap (map plain) c.push.ensures.items ∙ map_push plain t.rows.items c.args.row ∙ changes (add_refusal (rows_of t) (limits_of t) (plain c.args.row)) (added (rows_of t) (plain c.args.row)) (rows_of t) (not_refused _ c.in_ok-check.ensures)

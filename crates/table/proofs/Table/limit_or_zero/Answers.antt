@@ -5,4 +5,4 @@ use Rattle.table.proofs.Table.limit_or_zero.Goals as goal
 pub returns : goal.returns
 returns c =
     let t = c.args.self.now in
-    c.unwrap_or.ensures ∙ ap (λ (o : Option ℕ). unwrap_or o 0) c.limit.ensures ∙ limit_or t.limits c.args.feed t.eight
+    c.unwrap_or.ensures ∙ ap (λ (o : Option ℕ). unwrap_or o 0) c.limit.ensures ∙ limit_or t.limits c.args.feed t.ruled.eight
