@@ -1,5 +1,5 @@
-mod Calls
+mod Compacted
+mod Latest
+mod Lists
 mod Pigeonhole
-mod Places
 mod Replays
-mod Turns

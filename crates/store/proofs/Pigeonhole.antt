@@ -1,8 +1,8 @@
 -- A counting argument: if all rows of a list are below n, at most n of its entries are the newest of their row.
-use Rattle.std.proofs.Common.{◌≡◌, ℕ, zero, suc, ◌+◌, ◌<◌, ◌≤◌, Bool, true, false, cond, List, [], ◌∷◌, length, sym, refl, ap, ◌∙◌, ⊎_elim, arith, lit≤}
+use Rattle.std.proofs.Common.{◌≡◌, ℕ, zero, suc, ◌+◌, ◌<◌, ◌≤◌, Bool, true, false, cond, List, [], ◌∷◌, ◌++◌, length, sym, refl, ap, ◌∙◌, ⊎_elim, arith, lit≤, length-append, le-ltb}
 use Rattle.std.proofs.lemmas.Bool.{cases_eq}
 use Rattle.store.specs.declared.changes.change.Change.{Change}
-use Rattle.store.specs.ChangeList.{Entry, names, newest}
+use Rattle.store.specs.ChangeList.{Entry, names, newest, with_room}
 use Rattle.store.specs.ChangesHeld.{entries_of}
 use Rattle.store.proofs.Replays.{names_here, names_past}
 
@@ -67,3 +67,11 @@ entries_below (x ∷ xs) = (x.low, entries_below xs)
 -- so of any list of changes at most 128 are the newest of their row
 pub newest_128 : (xs : List Change) → length (newest (entries_of xs)) ≤ 128
 newest_128 xs = newest_few 128 (entries_of xs) (entries_below xs)
+
+-- after a full list was compacted and one change added, at most 129 places are taken
+pub paced : (xs : List Change) (after : List Entry) (e : Entry) → after ≡ with_room (entries_of xs) ++ e ∷ [] → 192 ≤ length (entries_of xs) → length after ≤ 129
+paced xs after e a h =
+    let b = le-ltb (length (entries_of xs)) 192 h in
+    let r : with_room (entries_of xs) ≡ newest (entries_of xs) = ap (λ t. cond t (entries_of xs) (newest (entries_of xs))) b in
+    let l = ap length (a ∙ ap (λ zs. zs ++ e ∷ []) r) ∙ length-append (newest (entries_of xs)) (e ∷ []) in
+    let f = newest_128 xs in omega arith

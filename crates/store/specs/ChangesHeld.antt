@@ -1,5 +1,5 @@
 -- What the list of changes in memory means.
-use Rattle.std.specs.Prelude.{ℕ, List, map, take}
+use Rattle.std.specs.Prelude.{ℕ, List, map}
 use Rattle.value.specs.Values.{bytes_of}
 use Rattle.store.specs.declared.changes.change.Change.{Change}
 use Rattle.store.specs.declared.changes.Changes.{Changes}
@@ -12,9 +12,9 @@ entry_of x = record { row = x.row; value = bytes_of x.value }
 abbrev pub entries_of : List Change → List Entry
 entries_of xs = map entry_of xs
 
--- the list: the first `count` of the array
+-- the list
 abbrev pub list_of : Changes → List Entry
-list_of c = entries_of (take c.count c.entries)
+list_of c = entries_of c.entries.items
 
 -- the values that it means
 abbrev pub changes_held : Changes → List (List ℕ)

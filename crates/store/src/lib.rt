@@ -4,6 +4,7 @@
 ghost use Rattle.std.specs.Prelude.{◌≡◌, ℕ, List, length};
 ghost use Rattle.store.specs.Held.{Sound, ask_answer, buffer_after, held_after, keep_answer};
 
+mod bounds;
 pub mod cells;
 pub mod changes;
 mod output;

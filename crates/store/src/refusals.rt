@@ -3,10 +3,10 @@ ghost use Rattle.std.specs.Prelude.{◌≡◌};
 ghost use Rattle.store.specs.Refusals.{ask_number, keep_number};
 
 /// Why a store does not keep a value.
-#[derive(Clone, Copy)]
+#[derive(Clone, Copy, PartialEq, Eq, Debug)]
 pub enum KeepRefusal {
-    /// The row is over 127 or the value over 24 bytes: 7.
-    OutOfBounds,
+    /// The row is over 127 or the value over 24 bytes.
+    OutOfBounds = 7,
 }
 
 impl KeepRefusal {
@@ -14,19 +14,17 @@ impl KeepRefusal {
     pub fn number(self) -> u8
         ensures { result ≡ keep_number self }
     {
-        match self {
-            KeepRefusal::OutOfBounds => 7,
-        }
+        self as u8
     }
 }
 
 /// Why a store does not answer with a value.
-#[derive(Clone, Copy)]
+#[derive(Clone, Copy, PartialEq, Eq, Debug)]
 pub enum AskRefusal {
-    /// The buffer is shorter than 24 bytes: 1.
-    ShortBuffer,
-    /// The row is over 127: 7.
-    OutOfBounds,
+    /// The buffer is shorter than 24 bytes.
+    ShortBuffer = 1,
+    /// The row is over 127.
+    OutOfBounds = 7,
 }
 
 impl AskRefusal {
@@ -34,9 +32,6 @@ impl AskRefusal {
     pub fn number(self) -> u8
         ensures { result ≡ ask_number self }
     {
-        match self {
-            AskRefusal::ShortBuffer => 1,
-            AskRefusal::OutOfBounds => 7,
-        }
+        self as u8
     }
 }

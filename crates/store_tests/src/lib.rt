@@ -6,47 +6,41 @@ mod tests {
     use std::process::Abort;
     use store::cells::Cells;
     use store::changes::Changes;
-    use store::{ROWS, Store};
+    use store::{AskRefusal, KeepRefusal, ROWS, Store};
 
-    // Keeps a value: 0, or the number of the refusal.
-    fn keep(store: &mut impl Store, row: usize, value: &[u8]) -> u8 {
-        match store.keep(row, value) {
-            Ok(()) => 0,
-            Err(refusal) => refusal.number(),
-        }
+    // Keeps a value, or tells the number of the refusal.
+    fn keep(store: &mut impl Store, row: usize, value: &[u8]) -> Result<(), u8> {
+        store.keep(row, value).map_err(KeepRefusal::number)
     }
 
     // Asks for a value: its length, or the number of the refusal.
     fn ask(store: &impl Store, row: usize, buffer: &mut [u8]) -> Result<usize, u8> {
-        match store.ask(row, buffer) {
-            Ok(len) => Ok(len),
-            Err(refusal) => Err(refusal.number()),
-        }
+        store.ask(row, buffer).map_err(AskRefusal::number)
     }
 
     // The row has this value, and asking for it leaves the bytes past it.
     fn holds(rt: &impl Abort, store: &impl Store, row: usize, value: &[u8]) {
         let mut buffer = [0xEE; 26];
         assert_eq!(rt; ask(store, row, &mut buffer), Ok(value.len()));
-        for (i, byte) in buffer.iter().enumerate() {
-            let expected = if i < value.len() { value[i] } else { 0xEE };
-            assert_eq!(rt; *byte, expected);
-        }
+        assert!(rt; value.len() <= 26);
+        let (asked, rest) = buffer.split_at(value.len());
+        assert_eq!(rt; asked, value);
+        assert!(rt; rest.iter().all(|byte| *byte == 0xEE));
     }
 
     fn keeps_within_bounds(rt: &impl Abort, store: &mut impl Store) {
         let bytes = b"abcdefghijklmnopqrstuvwxyz";
         for (row, len, answer) in [
-            (127usize, 24usize, 0u8),
-            (128, 24, 7),
-            (127, 25, 7),
-            (128, 25, 7),
-            (128, 0, 7),
+            (127usize, 24usize, Ok(())),
+            (128, 24, Err(7u8)),
+            (127, 25, Err(7)),
+            (128, 25, Err(7)),
+            (128, 0, Err(7)),
         ] {
             assert!(rt; len <= 26);
-            assert_eq!(rt; keep(store, row, &bytes[0..len]), answer);
+            assert_eq!(rt; keep(store, row, &bytes[..len]), answer);
         }
-        holds(rt, store, 127, &bytes[0..24]);
+        holds(rt, store, 127, &bytes[..24]);
         holds(rt, store, 126, &[]);
     }
 
@@ -59,7 +53,7 @@ mod tests {
         ] {
             let mut buffer = [0xEE; 24];
             assert!(rt; len <= 24);
-            assert_eq!(rt; ask(store, row, &mut buffer[0..len]), answer);
+            assert_eq!(rt; ask(store, row, &mut buffer[..len]), answer);
             assert_eq!(rt; buffer, [0xEE; 24]);
         }
     }
@@ -81,7 +75,7 @@ mod tests {
             (6, b"H"),
         ];
         for (row, value) in cases {
-            assert_eq!(rt; keep(store, row, value), 0);
+            assert_eq!(rt; keep(store, row, value), Ok(()));
             holds(rt, store, row, value);
         }
         holds(rt, store, 5, b"");
@@ -99,16 +93,10 @@ mod tests {
         assert!(rt; 0 < rows);
         let mut store = Changes::new();
         for n in 0..keeps {
-            assert_eq!(rt; keep(&mut store, n as usize % rows, &[n]), 0);
+            assert_eq!(rt; keep(&mut store, n as usize % rows, &[n]), Ok(()));
         }
         for row in 0..ROWS {
-            let mut newest = None;
-            for n in 0..keeps {
-                if n as usize % rows == row {
-                    newest = Some(n);
-                }
-            }
-            match newest {
+            match (0..keeps).rev().find(|n| *n as usize % rows == row) {
                 Some(n) => holds(rt, &store, row, &[n]),
                 None => holds(rt, &store, row, &[]),
             }
@@ -128,8 +116,8 @@ mod tests {
         let mut one = [0xEE; 26];
         let mut other = [0xEE; 26];
         assert_eq!(rt;
-            ask(cells, row, &mut one[0..room]),
-            ask(changes, row, &mut other[0..room])
+            ask(cells, row, &mut one[..room]),
+            ask(changes, row, &mut other[..room])
         );
         assert_eq!(rt; one, other);
     }

@@ -4,10 +4,11 @@ ghost use Rattle.store.specs.CellsHeld.{cells_held};
 ghost use Rattle.store.specs.Held.{empty_rows};
 ghost use Rattle.store.specs.Meaning.{cells_sound};
 
+use crate::bounds::{check_ask, check_keep};
 use crate::cells::Cells;
 use crate::output::write_value;
 use crate::{AskRefusal, KeepRefusal, ROWS, Store};
-use value::{MAX_LEN, Value};
+use value::Value;
 
 impl Cells {
     /// A store of 128 values of 0 bytes.
@@ -27,23 +28,13 @@ impl Store for Cells {
     ghost sound = { λ s. cells_sound s.cells s.sized };
 
     fn keep(&mut self, row: usize, value: &[u8]) -> Result<(), KeepRefusal> {
-        if row >= ROWS {
-            return Err(KeepRefusal::OutOfBounds);
-        }
-        let Some(value) = Value::new(value) else {
-            return Err(KeepRefusal::OutOfBounds);
-        };
+        let value = check_keep(row, value)?;
         self.cells[row] = value;
         Ok(())
     }
 
     fn ask(&self, row: usize, buffer: &mut [u8]) -> Result<usize, AskRefusal> {
-        if buffer.len() < MAX_LEN {
-            return Err(AskRefusal::ShortBuffer);
-        }
-        if row >= ROWS {
-            return Err(AskRefusal::OutOfBounds);
-        }
+        check_ask(row, buffer)?;
         Ok(write_value(&self.cells[row], buffer))
     }
 }

@@ -1,15 +1,17 @@
 // Making, keeping and asking, in time linear in the list.
-ghost use Rattle.std.specs.Prelude.{◌≡◌, ◌<◌, [], ◌∷◌, ◌++◌, length, take, IfOk, OnOk, ◌==◌};
+ghost use Rattle.std.specs.Prelude.{◌≡◌, ◌<◌, [], ◌∷◌, ◌++◌, length, take, IfOk, OnOk};
+ghost use Rattle.arrayvec.specs.ArrayVec.{array_vec_len};
 ghost use Rattle.store.specs.ChangeList.{LeavesRoom, NewestCounts, list_after, with_room};
 ghost use Rattle.store.specs.ChangesHeld.{changes_held, entry_of, list_of};
 ghost use Rattle.store.specs.Held.{ask_answer, buffer_after, empty_rows, held_after, keep_answer};
 ghost use Rattle.store.specs.Meaning.{changes_sound};
 
 use super::change::Change;
-use super::{Changes, PLACES, list};
+use super::{Changes, list};
+use crate::bounds::{check_ask, check_keep};
 use crate::output::write_value;
-use crate::{AskRefusal, KeepRefusal, ROWS, Store};
-use value::{MAX_LEN, Value};
+use crate::{AskRefusal, KeepRefusal, Store};
+use arrayvec::ArrayVec;
 
 impl Changes {
     /// A store without a change: 128 values of 0 bytes.
@@ -17,30 +19,18 @@ impl Changes {
         ensures held { changes_held result ≡ empty_rows }
         ensures list { list_of result ≡ [] }
     {
-        let unused = Change {
-            row: 0,
-            value: Value::empty(),
-        };
         Changes {
-            entries: [unused; PLACES],
-            count: 0,
+            entries: ArrayVec::new(),
         }
-    }
-
-    /// Whether every place of the list is taken.
-    fn is_full(&self) -> bool
-        ensures { result ≡ (self.now.count == 192) }
-    {
-        self.count == PLACES
     }
 
     /// Drops the outlived changes if the list is full, so that a place is free: of 192 changes at most 128 are the newest for their row.
     fn make_room(&mut self)
         ensures list { list_of self.new ≡ with_room (list_of self.old) }
-        ensures room { self.new.count < 192 }
+        ensures room { array_vec_len self.new.entries < 192 }
     {
-        if self.is_full() {
-            self.count = list::compact(&mut self.entries);
+        if self.entries.is_full() {
+            list::compact(&mut self.entries);
         }
     }
 
@@ -49,9 +39,7 @@ impl Changes {
         ensures { list_of self.new ≡ with_room (list_of self.old) ++ (entry_of change ∷ []) }
     {
         self.make_room();
-        let place = self.count;
-        self.entries[place] = change;
-        self.count = place + 1;
+        self.entries.push(change);
     }
 }
 
@@ -59,7 +47,7 @@ impl Changes {
 impl Store for Changes {
     ghost held = { changes_held };
 
-    ghost sound = { λ s. changes_sound (take s.count s.entries) };
+    ghost sound = { λ s. changes_sound s.entries.items };
 
     // Beyond what every store promises: what the list holds then, and that a keep in a full list leaves 63 places free.
     fn keep(&mut self, row: usize, value: &[u8]) -> Result<(), KeepRefusal>
@@ -68,12 +56,7 @@ impl Store for Changes {
         ensures list { list_of self.new ≡ list_after (list_of self.old) row value.now }
         ensures room { OnOk result (LeavesRoom (list_of self.old) (list_of self.new)) }
     {
-        if row >= ROWS {
-            return Err(KeepRefusal::OutOfBounds);
-        }
-        let Some(value) = Value::new(value) else {
-            return Err(KeepRefusal::OutOfBounds);
-        };
+        let value = check_keep(row, value)?;
         self.add(Change {
             row: row as u8,
             value,
@@ -87,13 +70,8 @@ impl Store for Changes {
         ensures after { buffer.new ≡ buffer_after (changes_held self.now) row buffer.old }
         ensures newest { IfOk result (λ n. NewestCounts row (take n buffer.new) (list_of self.now)) }
     {
-        if buffer.len() < MAX_LEN {
-            return Err(AskRefusal::ShortBuffer);
-        }
-        if row >= ROWS {
-            return Err(AskRefusal::OutOfBounds);
-        }
-        let value = list::latest(&self.entries[0..self.count], row);
+        check_ask(row, buffer)?;
+        let value = list::latest(&self.entries, row);
         Ok(write_value(&value, buffer))
     }
 }

@@ -10,3 +10,13 @@ pub(super) struct Change {
     pub(super) value: Value,
     ghost low: { row < 128 },
 }
+
+/// What stands in the unused places of a list.
+impl Default for Change {
+    fn default() -> Change {
+        Change {
+            row: 0,
+            value: Value::empty(),
+        }
+    }
+}

@@ -1,42 +1,18 @@
-use Rattle.std.proofs.Common.{ℕ, ◌+◌, List, ◌++◌, take, set, replicate, sym, refl, ◌∙◌, subst, append-nil, arith, lit≤}
-use Rattle.std.proofs.lemmas.List.{at_drop_all}
-use Rattle.store.specs.declared.changes.change.Change.{Change}
-use Rattle.store.specs.ChangeList.{newest}
-use Rattle.store.specs.ChangesHeld.{entries_of}
-use Rattle.store.proofs.Pigeonhole.{entries_below}
-use Rattle.store.proofs.Places.{Told, places_told}
-use Rattle.store.proofs.Turns.{moved, outlived, split_same}
+use Rattle.std.proofs.Common.{◌≡◌, length, reverse, arith, ap, ◌∙◌, rules}
+use Rattle.std.proofs.lemmas.List.{length-map}
+use Rattle.arrayvec.specs.ArrayVec.{with_items}
+use Rattle.store.specs.ChangesHeld.{entries_of, entry_of}
+use Rattle.store.specs.contracts.changes.list.fn.compact.retain as closure
+use Rattle.store.proofs.Pigeonhole.{newest_128}
+use Rattle.store.proofs.Compacted.{none, retained, turned, unseen, unseen_newest}
 use Rattle.store.proofs.changes.list.compact.Goals as goal
-use Rattle.store.proofs.changes.list.compact.Goals.{then-places-change, else-places-change}
-
-pub loop-i-init : goal.loop-i-init
-loop-i-init c =
-    let es = entries_of c.args.changes.now in
-    let P : List ℕ → Type 0 = λ places. Told 0 es places in
-    ((refl, subst P (sym c.newest_places-places.ensures) (places_told es 0 (replicate 128 0) (entries_below c.args.changes.now) refl)), lit≤ tt, refl)
-
-pub loop-i-preserved : goal.loop-i-preserved
-loop-i-preserved c =
-    let xs = c.loop-i.changes in
-    let places = c.newest_places-places.result in
-    let i = c.loop-i.i in
-    let k = c.loop-i.count in
-    let x = c.index-changes-i.result in
-    let all = newest (entries_of c.args.changes.now) in
-    let n = c.if-places-change.count in
-    let ys = c.if-places-change.changes in (
-      elim c.if-places-change.branch [
-        | then-places-change w ↦ split_same (set xs k x) ys all places (i + 1) (k + 1) n w.changes-is w.count-is (moved xs all places i k x (omega (arith, c.loop-i.invariant.2)) c.loop-i.invariant.1 c.index-changes-i.is w.if-places-change.true c.loop-i.invariant.0)
-        | else-places-change w ↦ split_same xs ys all places (i + 1) k n w.changes-is w.count-is (outlived xs all places i k x (omega (arith, c.loop-i.invariant.2)) c.index-changes-i.is w.if-places-change.false c.loop-i.invariant.0)
-      ],
-      elim c.if-places-change.branch [ then-places-change w ↦ omega (arith, w.count-is, c.loop-i.invariant.1) | else-places-change w ↦ omega (arith, w.count-is, c.loop-i.invariant.1) ],
-      c.if-places-change.auto.changes ∙ c.loop-i.invariant.2,
-    )
 
 pub returns : goal.returns
 returns c =
-    let front = entries_of (take c.loop-i.count c.loop-i.changes) in
-    record {
-      within = omega (arith, c.loop-i.invariant.1, c.loop-i.invariant.2);
-      front = sym (append-nil front) ∙ sym (at_drop_all (λ (xs : List Change). front ++ newest (entries_of xs)) c.loop-i.changes c.loop-i.i (omega (arith, c.loop-i.invariant.2))) ∙ c.loop-i.invariant.0.0;
-    }
+    let before = c.args.changes.now in
+    let after = c.retain.new.self in
+    let kept : after.items ≡ unseen none (with_items before c.reverse.new.self).items = retained (λ f. (closure.captures f).seen) _ (λ f x b g y k. search rules) _ _ _ c.retain.ensures.filtered in
+    let first = turned before _ _ c.deref_mut.ensures.value c.reverse.ensures.after in
+    let then = turned after _ _ c.deref_mut-2.ensures.value c.reverse-2.ensures.after in
+    let list = ap entries_of (then ∙ ap reverse (kept ∙ ap (unseen none) first)) ∙ unseen_newest before.items in
+    record { list = list; few = omega (arith, newest_128 before.items, ap length list, length-map (with_items after c.reverse-2.new.self).items entry_of) }

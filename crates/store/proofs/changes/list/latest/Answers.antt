@@ -1,23 +1,14 @@
-use Rattle.std.proofs.Common.{[], get_or, sym, ap, ◌∙◌}
-use Rattle.std.proofs.lemmas.List.{get_or-replicate, take_all}
-use Rattle.value.specs.declared.Value.{Value}
-use Rattle.value.specs.Values.{bytes_of}
-use Rattle.store.specs.ChangeList.{replay}
-use Rattle.store.specs.Held.{empty_rows}
-use Rattle.store.specs.ChangesHeld.{entries_of}
-use Rattle.store.proofs.Turns.{latest_here, latest_past}
+use Rattle.std.proofs.Common.{rules}
+use Rattle.std.proofs.lemmas.Iterator.Search.{find_from_yields_List}
+use Rattle.std.proofs.lemmas.Iterator.Adapters.{YieldsList-from_rev_slice}
+use borrow.Author.Tests.{tests}
+use Rattle.store.proofs.Latest.{for_row, latest_found}
 use Rattle.store.proofs.changes.list.latest.Goals as goal
-use Rattle.store.proofs.changes.list.latest.Goals.{then-change-row, else-change-row}
-
-pub loop-change-init : goal.loop-change-init
-loop-change-init c = c.empty-value.ensures ∙ sym (get_or-replicate 128 c.args.row [] [] c.requires)
-
-pub loop-change-preserved : goal.loop-change-preserved
-loop-change-preserved c =
-    elim c.if-change-row.branch [
-      | then-change-row w ↦ ap (λ (v : Value). bytes_of v) w.value-is ∙ latest_here c.args.changes.now c.loop-change.change-index c.change-item.result c.args.row c.loop-change-test.true c.change-item.is w.if-change-row.true c.requires
-      | else-change-row w ↦ latest_past c.args.changes.now c.loop-change.change-index c.change-item.result c.args.row (bytes_of c.if-change-row.value) c.loop-change-test.true c.change-item.is w.if-change-row.false (ap (λ (v : Value). bytes_of v) w.value-is ∙ c.loop-change.invariant)
-    ]
 
 pub returns : goal.returns
-returns c = c.loop-change.invariant ∙ ap (λ xs. get_or (replay (entries_of xs) empty_rows) c.args.row []) (take_all c.loop-change.change-index c.args.changes.now c.loop-change-test.false)
+returns c =
+    let row = c.args.row in
+    let xs = c.args.changes.now in
+    latest_found row xs c.find-newest.result c.empty.result c.map_or.result c.requires
+    (find_from_yields_List (for_row row) _ _ _ c.find-newest.ensures.ran (YieldsList-from_rev_slice xs (search rules)) (λ x b q k. search (rules, tests)))
+    (search rules) c.empty.ensures
