@@ -1,36 +1,35 @@
 -- Values by the bytes that they are made of.
-use Rattle.std.proofs.Common.{◌≡◌, ℕ, ◌+◌, ◌-◌, ◌<◌, ◌≤◌, true, false, eqb, List, [], ◌∷◌, length, get_or, take, drop, Ok, Err, Result, sym, refl, ap, ◌∙◌, ⊎_elim, arith}
-use Rattle.std.proofs.lemmas.List.{drop_more, drop_all}
-use Rattle.std.proofs.lemmas.Bool.{cases_Bool, cond-true, cond-false, eq-eqb, ne_eqb, le-ltb, lt-ltb}
+use Rattle.std.proofs.Common.{◌≡◌, ℕ, ◌+◌, ◌<◌, ◌≤◌, true, false, cond, eqb, ltb, List, [], ◌∷◌, length, take, Some, None, Ok, Err, Option, Result, sym, refl, ap, ◌∙◌, ⊎_elim, arith}
+use Rattle.std.specs.List.{position, position_or_len}
+use Rattle.std.specs.Option.{unwrap_or}
+use Rattle.std.proofs.lemmas.List.{take-take}
+use Rattle.std.proofs.lemmas.List.Recursion.{is_position_or_len}
+use Rattle.std.proofs.lemmas.List.Sums.{prefix_len-le-length}
+use Rattle.std.proofs.lemmas.Bool.{cases_Bool, cond-true, cond-false, eq-eqb, le-ltb, lt-ltb, ltb-false}
 use Rattle.chain.specs.declared.fault.RackFault.{RackFault}
 use Rattle.chain.specs.declared.fault.RackFault.TheVariants.{BadValue}
 use Rattle.chain.specs.Faults.{missing}
-use Rattle.chain.specs.Values.{before_zero, open_at, text_at}
+use Rattle.chain.specs.Values.{before_zero, open_at}
 
-pub text_taken : (xs bs : List ℕ) (n size i : ℕ) → xs ≡ n ∷ bs → n ≡ size → size ≤ length bs →
-    ◌≡◌ {A = Result (List ℕ × ℕ) RackFault} (Ok (take (size - 0) bs, size + 1)) (text_at size i xs)
-text_taken xs bs n size i e f h =
-    let z : size - 0 ≡ size = omega arith in
-    let p = eq-eqb n size f in
-    let q = le-ltb (length bs) size h in
-    simp (e, z, p, q)
+one_more : (b : ℕ) (bs : List ℕ) → length (before_zero (b ∷ bs)) ≡ cond (eqb b 0) 0 (1 + length (before_zero bs))
+one_more b bs =
+    elim (eqb b 0) as (λ v. length (cond v [] (b ∷ before_zero bs)) ≡ cond v 0 (1 + length (before_zero bs))) [ true ↦ refl | false ↦ omega arith ]
 
--- the loop that counts the bytes before the first 00
-module _ (xs : List ℕ) (i : ℕ) (inv : i + length (before_zero (drop i xs)) ≡ length (before_zero xs)) where
-  pub zero_here : get_or xs i 0 ≡ 0 → i < length xs → i ≡ length (before_zero xs)
-  zero_here e h =
-      let c : before_zero (drop i xs) ≡ [] =
-      ap before_zero (drop_more xs i 0 h) ∙ cond-true _ _ _ (eq-eqb (get_or xs i 0) 0 e) in
-      omega (arith, ap length c)
+front_length : (bs : List ℕ) → length (before_zero bs) ≡ position_or_len (λ b. eqb b 0) bs
+front_length bs = is_position_or_len (λ xs. length (before_zero xs)) (λ b. eqb b 0) refl one_more bs
 
-  pub zero_not_here : (get_or xs i 0 ≡ 0 → ⊥) → i < length xs → (i + 1) + length (before_zero (drop (i + 1) xs)) ≡ length (before_zero xs)
-  zero_not_here e h =
-      let c : before_zero (drop i xs) ≡ get_or xs i 0 ∷ before_zero (drop (i + 1) xs) =
-      ap before_zero (drop_more xs i 0 h) ∙ cond-false _ _ _ (ne_eqb (get_or xs i 0) 0 e) in
-      omega (arith, ap length c)
-
-  pub zero_nowhere : length xs ≤ i → i ≤ length xs → length xs ≡ length (before_zero xs)
-  zero_nowhere h k = let c : before_zero (drop i xs) ≡ [] = ap before_zero (drop_all i xs h) in omega (arith, ap length c)
+-- the place of the first 00, or the length where there is none, tells how many bytes stand before it
+pub zero_found : (bs : List ℕ) → unwrap_or (position (λ b. eqb b 0) bs) (length bs) ≡ length (before_zero bs)
+zero_found bs =
+    let n : ℕ = position_or_len (λ b. eqb b 0) bs in
+    ⊎_elim
+    (λ (k : ltb n (length bs) ≡ true). ap (λ (o : Option ℕ). unwrap_or o (length bs)) (cond-true (ltb n (length bs)) (Some n) None k) ∙ sym (front_length bs))
+    (λ (k : ltb n (length bs) ≡ false).
+    let m = ltb-false n (length bs) k in
+    let l : n ≤ length bs = prefix_len-le-length _ bs in
+    let q : length bs ≡ n = omega arith in
+    ap (λ (o : Option ℕ). unwrap_or o (length bs)) (cond-false (ltb n (length bs)) (Some n) None k) ∙ q ∙ sym (front_length bs))
+    (cases_Bool (ltb n (length bs)))
 
 -- the bytes before the first 00 are the front of that length
 pub before_front : (bs : List ℕ) → take (length (before_zero bs)) bs ≡ before_zero bs
@@ -56,14 +55,16 @@ module _ (xs bs : List ℕ) (n size i : ℕ) (e : xs ≡ n ∷ bs) (f : n ≡ 0)
       let u = le-ltb (length (before_zero bs)) (length bs) t in
       simp (e, p, r, u)
 
-  pub open_taken : size ≤ 24 → size < length bs → ◌≡◌ {A = Result (List ℕ × ℕ) RackFault} (Ok (take (size - 0) bs, size + 2)) (open_at i xs)
-  open_taken h k =
+  -- the bytes taken are the text and the 00 behind it
+  pub open_taken : (ended : List ℕ) (used : ℕ) → size ≤ 24 → size + 1 ≤ length bs → ended ≡ take (size + 1) bs → used ≡ size + 2 →
+      ◌≡◌ {A = Result (List ℕ × ℕ) RackFault} (Ok (take size ended, used)) (open_at i xs)
+  open_taken ended used h k g w =
       let p = eq-eqb n 0 f in
       let q : length (before_zero bs) ≤ 24 = omega arith in
       let r = le-ltb 24 (length (before_zero bs)) q in
       let t : length (before_zero bs) < length bs = omega arith in
       let u = lt-ltb (length (before_zero bs)) (length bs) t in
-      let z : size - 0 ≡ length (before_zero bs) = omega arith in
-      let v : take (size - 0) bs ≡ before_zero bs = ap (λ (k : ℕ). take k bs) z ∙ before_front bs in
-      let w : size + 2 ≡ length (before_zero bs) + 2 = omega arith in
-      simp (e, p, r, u, v, w)
+      let v : take size ended ≡ before_zero bs =
+      ap (take size) g ∙ take-take size (size + 1) bs (omega arith) ∙ ap (λ (k : ℕ). take k bs) s ∙ before_front bs in
+      let z : used ≡ length (before_zero bs) + 2 = omega arith in
+      simp (e, p, r, u, v, z)

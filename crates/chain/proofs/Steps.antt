@@ -1,17 +1,20 @@
 -- One step through a chain.
-use Rattle.std.proofs.Common.{◌≡◌, ℕ, zero, suc, ◌+◌, ◌-◌, ◌≤◌, min, Bool, true, List, [], ◌∷◌, length, take, drop, Some, Ok, Err, Result, sym, refl, ap, ◌∙◌, add-zero, arith, length-drop}
-use Rattle.std.proofs.lemmas.List.{take_all}
-use Rattle.std.proofs.lemmas.Bool.{cond-true}
+use Rattle.std.proofs.Common.{◌≡◌, ℕ, zero, suc, ◌+◌, ◌-◌, ◌≤◌, Bool, List, [], ◌∷◌, length, drop, Some, Ok, Err, Result, sym, refl, ap, ◌∙◌, add-zero, arith, length-drop}
+use Rattle.std.proofs.lemmas.List.{drop-drop}
+use Rattle.table.specs.Held.{rows_of}
 use Rattle.table.specs.Rows.{PlainRow}
 use Rattle.chain.specs.declared.access.Access.{Access}
 use Rattle.chain.specs.declared.fault.RackFault.{RackFault}
-use Rattle.chain.specs.declared.fault.RackFault.TheVariants.{NoProcess}
+use Rattle.chain.specs.declared.cursor.Cursor.{Cursor}
 use Rattle.chain.specs.declared.reader.Ahead.{Ahead}
-use Rattle.chain.specs.declared.reader.Ahead.TheVariants.{Group, InGroup}
+use Rattle.chain.specs.declared.reader.Ahead.TheVariants.{InGroup}
+use Rattle.chain.specs.declared.reader.Chain.{Chain}
+use Rattle.chain.specs.declared.reader.Start.{Start}
+use Rattle.chain.specs.Cursors.{rest, Behind}
 use Rattle.chain.specs.Items.{PlainItem}
-use Rattle.chain.specs.Walks.{Walked, barred, spoiled, taken, Look, unfound, on_row, refused_by, next, onward, walk}
+use Rattle.chain.specs.Walks.{Walked, barred, spoiled, taken, Look, unfound, on_row, next, onward, walk}
 use Rattle.chain.specs.Chains.{opens_by, look_by, walk_by}
-use Rattle.chain.specs.Reader.{look_result, given, left, chain_of}
+use Rattle.chain.specs.Reader.{look_result, from_item, given, left}
 
 -- bytes that belong to the item before are passed over
 pub walk_skip : (opens : ℕ → Bool) (look : ℕ → ℕ → Bool → ℕ → List ℕ → Look) (i : ℕ) (a : Ahead) (k : ℕ) (bs : List ℕ) → k ≤ length bs →
@@ -22,68 +25,59 @@ walk_skip opens look i a (suc k) (b ∷ bs) h =
     let n : i + 1 + k ≡ i + suc k = omega arith in
     walk_skip opens look (i + 1) a k bs (omega arith) ∙ ap (λ (m : ℕ). walk opens look m a 0 (drop k bs)) n
 
--- a process byte that opens a group is passed over
-pub group_opened : (access : Access) (rows : List PlainRow) (i g : ℕ) (a : Ahead) (xs bs : List ℕ) → a ≡ Group → xs ≡ g ∷ bs → opens_by access rows g ≡ true →
-    walk_by access rows (i + 1) (InGroup g true) 0 bs ≡ walk_by access rows i a 0 xs
-group_opened access rows i g a xs bs p e h =
-    sym
-    (ap (λ (x : Ahead). walk_by access rows i x 0 xs) p ∙ ap (walk_by access rows i Group 0) e
-    ∙ cond-true (opens_by access rows g) (walk_by access rows (i + 1) (InGroup g true) 0 bs) (refused_by (NoProcess i)) h)
+-- an item of a group is seen at its first byte
+pub item_seen : (access : Access) (rows : List PlainRow) (i j g b : ℕ) (first : Bool) (xs bs : List ℕ) → i ≡ j → xs ≡ b ∷ bs →
+    onward i (look_by access rows i g first b bs) (λ k. walk_by access rows (i + 1) (next g b) k bs) ≡ walk_by access rows j (InGroup g first) 0 xs
+item_seen access rows i j g b first xs bs p e =
+    ap (λ (n : ℕ). onward n (look_by access rows n g first b bs) (λ k. walk_by access rows (n + 1) (next g b) k bs)) p
+    ∙ sym (ap (walk_by access rows j (InGroup g first) 0) e)
 
 -- an item that is given, and what is left behind it
 onward-taken : (i : ℕ) (l : Look) (rest : ℕ → Walked) (x : PlainItem) (k : ℕ) → Ok (x, k) ≡ look_result l →
     (Ok (Some x) ≡ given (onward i l rest)) × (rest k ≡ left (onward i l rest))
-onward-taken i (unfound f) rest x k e = let z : ◌≡◌ {A = ℕ} 0 1 = cc in absurd (omega arith)
-onward-taken i (on_row r (barred f)) rest x k e = let z : ◌≡◌ {A = ℕ} 0 1 = cc in absurd (omega arith)
-onward-taken i (on_row r (spoiled f)) rest x k e = let z : ◌≡◌ {A = ℕ} 0 1 = cc in absurd (omega arith)
+onward-taken i (unfound f) rest x k e = cc
+onward-taken i (on_row r (barred f)) rest x k e = cc
+onward-taken i (on_row r (spoiled f)) rest x k e = cc
 onward-taken i (on_row r (taken y m)) rest x k e =
     let p : ◌≡◌ {A = PlainItem × ℕ} (x, k) (y, m) = cc in
     (ap (λ (z : PlainItem × ℕ). Ok (Some z.0)) p, ap (λ (z : PlainItem × ℕ). rest z.1) p)
 
 same_refusal : {A B : Type 0} (f g : RackFault) → ◌≡◌ {A = Result A RackFault} (Err f) (Err g) → ◌≡◌ {A = Result B RackFault} (Err f) (Err g)
-same_refusal f g e = let h : f ≡ g = cc in ap (λ (x : RackFault). Err x) h
+same_refusal f g e = cc
 
 onward_refused : (i : ℕ) (l : Look) (rest : ℕ → Walked) (f : RackFault) → Err f ≡ look_result l →
     (Err f ≡ given (onward i l rest)) × (onward i l rest ≡ left (onward i l rest))
 onward_refused i (unfound g) rest f e = (same_refusal f g e, refl)
 onward_refused i (on_row r (barred g)) rest f e = (same_refusal f g e, refl)
 onward_refused i (on_row r (spoiled g)) rest f e = (same_refusal f g e, refl)
-onward_refused i (on_row r (taken y m)) rest f e = let z : ◌≡◌ {A = ℕ} 0 1 = cc in absurd (omega arith)
+onward_refused i (on_row r (taken y m)) rest f e = cc
 
-module _ (access : Access) (rows : List PlainRow) (i g b : ℕ) (first : Bool) (xs bs : List ℕ) (w : Walked) (e : xs ≡ b ∷ bs)
-    (s : walk_by access rows i (InGroup g first) 0 xs ≡ w) where
-  abbrev rest : ℕ → Walked
-  rest k = walk_by access rows (i + 1) (next g b) k bs
+module _ (c : Chain) (s : Start) (w : Walked) (e : from_item c s ≡ w) where
+  abbrev look : Look
+  look = look_by c.access (rows_of c.table.now) s.place s.group s.first s.byte (rest s.behind)
 
-  at_item : w ≡ onward i (look_by access rows i g first b bs) rest
-  at_item = sym s ∙ ap (walk_by access rows i (InGroup g first) 0) e
+  abbrev onto : ℕ → Walked
+  onto k = walk_by c.access (rows_of c.table.now) (s.place + 1) (next s.group s.byte) k (rest s.behind)
 
-  pub item_taken : (x : PlainItem) (k : ℕ) → Ok (x, k) ≡ look_result (look_by access rows i g first b bs) → k ≤ length bs →
-      (Ok (Some x) ≡ given w) × (walk_by access rows (i + 1 + k) (next g b) 0 (drop k bs) ≡ left w)
-  item_taken x k l h =
-      let o = onward-taken i (look_by access rows i g first b bs) rest x k l in (
-        o.0 ∙ ap given (sym at_item),
-        sym (walk_skip (opens_by access rows) (look_by access rows) (i + 1) (next g b) k bs h) ∙ o.1 ∙ ap left (sym at_item),
-      )
+  pub item_given : (x : PlainItem) (k : ℕ) → Ok (x, k) ≡ look_result look → Ok (Some x) ≡ given w
+  item_given x k l = (onward-taken s.place look onto x k l).0 ∙ ap given e
 
-  -- the same, as the code cuts what is left
-  pub item_left : (x : PlainItem) (k : ℕ) (a : Ahead) → Ok (x, k) ≡ look_result (look_by access rows i g first b bs) → k ≤ length bs → a ≡ next g b →
-      walk_by access rows (i + 1 + k) a 0 (take (length bs - k) (drop k bs)) ≡ left w
-  item_left x k a l h n =
-      let all : take (length bs - k) (drop k bs) ≡ drop k bs = take_all (length bs - k) (drop k bs) (omega (arith, length-drop k bs)) in
-      ap (λ (y : Ahead). walk_by access rows (i + 1 + k) y 0 (take (length bs - k) (drop k bs))) n
-      ∙ ap (walk_by access rows (i + 1 + k) (next g b) 0) all ∙ (item_taken x k l h).1
+  -- the cursor stands behind the bytes that the item takes
+  pub item_left : (d : Cursor) (x : PlainItem) (a : Ahead) → Ok (x, d.at - s.behind.at) ≡ look_result look → Behind s.behind d → a ≡ next s.group s.byte →
+      walk_by c.access (rows_of c.table.now) d.at a 0 (rest d) ≡ left w
+  item_left d x a l h n =
+      let k : ℕ = d.at - s.behind.at in
+      let m = ap length h.1 in
+      let fits : k ≤ length (rest s.behind) = omega (arith, h, s.next, d.inside, length-drop s.behind.at s.behind.message.now) in
+      let at : s.place + 1 + k ≡ d.at = omega (arith, h, s.next) in
+      let far : s.behind.at + k ≡ d.at = omega (arith, h) in
+      let bytes : drop k (rest s.behind) ≡ rest d =
+      drop-drop k s.behind.at s.behind.message.now ∙ ap (λ (i : ℕ). drop i s.behind.message.now) far ∙ ap (drop d.at) (sym h.1) in
+      ap (λ (y : Ahead). walk_by c.access (rows_of c.table.now) d.at y 0 (rest d)) n
+      ∙ ap (walk_by c.access (rows_of c.table.now) d.at (next s.group s.byte) 0) (sym bytes)
+      ∙ ap (λ (i : ℕ). walk_by c.access (rows_of c.table.now) i (next s.group s.byte) 0 (drop k (rest s.behind))) (sym at)
+      ∙ sym (walk_skip (opens_by c.access (rows_of c.table.now)) (look_by c.access (rows_of c.table.now)) (s.place + 1) (next s.group s.byte) k (rest s.behind) fits)
+      ∙ (onward-taken s.place look onto x k l).1 ∙ ap left e
 
-  pub item_refused : (f : RackFault) → Err f ≡ look_result (look_by access rows i g first b bs) → (Err f ≡ given w) × (w ≡ left w)
-  item_refused f l =
-      let o = onward_refused i (look_by access rows i g first b bs) rest f l in
-      (o.0 ∙ ap given (sym at_item), at_item ∙ o.1 ∙ ap left (sym at_item))
-
--- a chain stands behind the command
-pub begun : (access : Access) (rows : List PlainRow) (xs : List ℕ) (k : ℕ) → k ≡ min (length xs) 1 →
-    walk_by access rows k Group 0 (take (length xs - k) (drop k xs)) ≡ chain_of access rows xs
-begun access rows [] k e = ap (λ (n : ℕ). walk_by access rows n Group 0 (take (0 - n) (drop n []))) e
-begun access rows (c ∷ xs) k e =
-    let one : k ≡ 1 = omega arith in
-    ap (λ (n : ℕ). walk_by access rows n Group 0 (take (suc (length xs) - n) (drop n (c ∷ xs)))) one
-    ∙ ap (walk_by access rows 1 Group 0) (take_all (suc (length xs) - 1) xs (omega arith))
+  pub item_refused : (f : RackFault) → Err f ≡ look_result look → (Err f ≡ given w) × (w ≡ left w)
+  item_refused f l = let o = onward_refused s.place look onto f l in (o.0 ∙ ap given e, sym e ∙ o.1 ∙ ap left e)

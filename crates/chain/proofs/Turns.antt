@@ -1,5 +1,5 @@
 -- One turn of a loop over a chain.
-use Rattle.std.proofs.Common.{◌≡◌, ℕ, List, [], ◌∷◌, Some, None, Ok, Err, Option, sym, refl, ap, arith}
+use Rattle.std.proofs.Common.{◌≡◌, List, [], ◌∷◌, Some, None, Ok, Err, Option, refl}
 use Rattle.chain.specs.declared.fault.RackFault.{RackFault}
 use Rattle.chain.specs.Items.{PlainItem}
 use Rattle.chain.specs.Walks.{Walked}
@@ -15,26 +15,26 @@ left_refusal w = behind_refusal w.items w
 
 -- where an item is given, the items are that one and those left
 some_items : (items : List PlainItem) (w : Walked) (f : Option RackFault) (x : PlainItem) → w.items ≡ items → Ok (Some x) ≡ next_of items f → items ≡ x ∷ (behind items w).items
-some_items [] w None x s e = let z : ◌≡◌ {A = ℕ} 0 1 = cc in absurd (omega arith)
-some_items [] w (Some g) x s e = let z : ◌≡◌ {A = ℕ} 0 1 = cc in absurd (omega arith)
-some_items (y ∷ items) w f x s e = let q : x ≡ y = cc in ap (λ (z : PlainItem). z ∷ items) (sym q)
+some_items [] w None x s e = cc
+some_items [] w (Some g) x s e = cc
+some_items (y ∷ items) w f x s e = cc
 
 pub item_given : (w : Walked) (x : PlainItem) → Ok (Some x) ≡ given w → w.items ≡ x ∷ (left w).items
 item_given w x e = some_items w.items w w.refusal x refl e
 
 none_items : (items : List PlainItem) (f : Option RackFault) → Ok None ≡ next_of items f → (items ≡ []) × (f ≡ None)
 none_items [] None e = (refl, refl)
-none_items [] (Some g) e = let z : ◌≡◌ {A = ℕ} 0 1 = cc in absurd (omega arith)
-none_items (y ∷ items) f e = let z : ◌≡◌ {A = ℕ} 0 1 = cc in absurd (omega arith)
+none_items [] (Some g) e = cc
+none_items (y ∷ items) f e = cc
 
 -- where the end is told, nothing is left and nothing refused
 pub end-given : (w : Walked) → Ok None ≡ given w → (w.items ≡ []) × (w.refusal ≡ None)
 end-given w e = none_items w.items w.refusal e
 
 refused_items : (items : List PlainItem) (f : Option RackFault) (g : RackFault) → Err g ≡ next_of items f → (items ≡ []) × (f ≡ Some g)
-refused_items [] None g e = let z : ◌≡◌ {A = ℕ} 0 1 = cc in absurd (omega arith)
-refused_items [] (Some h) g e = let q : g ≡ h = cc in (refl, ap (λ (z : RackFault). Some z) (sym q))
-refused_items (y ∷ items) f g e = let z : ◌≡◌ {A = ℕ} 0 1 = cc in absurd (omega arith)
+refused_items [] None g e = cc
+refused_items [] (Some h) g e = (refl, (cc))
+refused_items (y ∷ items) f g e = cc
 
 -- where a refusal is told, no item is left before it
 pub refusal_given : (w : Walked) (g : RackFault) → Err g ≡ given w → (w.items ≡ []) × (w.refusal ≡ Some g)

@@ -2,8 +2,8 @@ pub mod Faults
 pub mod Access
 pub mod Items
 pub mod Values
-pub mod Spelled
 pub mod Walks
+pub mod Cursors
 pub mod Chains
 pub mod Reader
 pub mod Locks

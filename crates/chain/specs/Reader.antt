@@ -1,19 +1,19 @@
 -- What a reader of a chain gives and leaves.
-use Rattle.std.specs.Prelude.{ℕ, List, [], ◌∷◌, drop, Some, None, Ok, Err, Option, Result}
+use Rattle.std.specs.Prelude.{ℕ, ◌+◌, cond, ◌&&◌, List, [], ◌∷◌, drop, Some, None, Ok, Err, Option, Result, ◌==◌}
 use Rattle.table.specs.Held.{rows_of}
 use Rattle.table.specs.Rows.{PlainRow}
 use Rattle.chain.specs.declared.access.Access.{Access}
 use Rattle.chain.specs.declared.fault.RackFault.{RackFault}
-use Rattle.chain.specs.declared.item.Asked.{Asked}
 use Rattle.chain.specs.declared.item.Item.{Item}
-use Rattle.chain.specs.declared.item.Taken.{Taken}
 use Rattle.chain.specs.declared.reader.Chain.{Chain}
-use Rattle.chain.specs.declared.reader.Ahead.TheVariants.{InGroup}
 use Rattle.chain.specs.declared.reader.Start.{Start}
+use Rattle.chain.specs.declared.fault.RackFault.TheVariants.{WrongType, NotReadable}
+use Rattle.chain.specs.Cursors.{rest}
 use Rattle.chain.specs.Faults.{missing}
-use Rattle.chain.specs.Items.{PlainItem, plain_item, read}
-use Rattle.chain.specs.Walks.{Walked, Verdict, barred, spoiled, taken, Look, unfound, on_row, refused_by, ended}
-use Rattle.chain.specs.Chains.{walk_by, chain_by}
+use Rattle.chain.specs.Items.{PlainItem, plain_item}
+use Rattle.chain.specs.Values.{type_bits}
+use Rattle.chain.specs.Walks.{Walked, Verdict, barred, spoiled, taken, Look, unfound, on_row, refused_by, ended, next, onward}
+use Rattle.chain.specs.Chains.{type_of, look_by, walk_by, chain_by}
 
 -- an item and the bytes that it takes behind its first, or why it is refused, by the definition
 abbrev pub verdict_result : Verdict → Result (PlainItem × ℕ) RackFault
@@ -25,22 +25,29 @@ abbrev pub look_result : Look → Result (PlainItem × ℕ) RackFault
 look_result (unfound f) = Err f
 look_result (on_row r v) = verdict_result v
 
--- the same, as the code tells it of a write and of a read
-abbrev pub taken_of : Result Taken RackFault → Result (PlainItem × ℕ) RackFault
-taken_of (Ok t) = Ok (plain_item t.item, t.used)
-taken_of (Err f) = Err f
-
-abbrev pub asked_of : Result Asked RackFault → Result (PlainItem × ℕ) RackFault
-asked_of (Ok t) = Ok (read t.query, t.used)
-asked_of (Err f) = Err f
+-- what bars a read on a row: the types of its parameter byte q and its index byte x, or the row's marks
+abbrev pub may_read : PlainRow → ℕ → ℕ → ℕ → Result (Unit {0}) RackFault
+may_read row x q i =
+    cond (type_of q == type_bits row.kind && type_of x == type_of q) (cond row.readable (Ok tt) (Err (NotReadable i))) (Err (WrongType i))
 
 -- what is left of a chain that is being taken apart
 abbrev pub remaining : Chain → Walked
-remaining c = walk_by c.access (rows_of c.table.now) c.at c.ahead 0 c.rest.now
+remaining c = walk_by c.access (rows_of c.table.now) c.cursor.at c.ahead 0 (rest c.cursor)
 
--- what is left from where an item starts: nothing at the end, and a refusal refuses the rest
+-- what is left from an item on, by its first byte
+abbrev pub from_item : Chain → Start → Walked
+from_item c s =
+    onward s.place (look_by c.access (rows_of c.table.now) s.place s.group s.first s.byte (rest s.behind))
+    (λ k. walk_by c.access (rows_of c.table.now) (s.place + 1) (next s.group s.byte) k (rest s.behind))
+
+-- the same where the item is to be told: a refusal refuses the rest
+abbrev pub from_group : Chain → Result Start RackFault → Walked
+from_group c (Ok s) = from_item c s
+from_group c (Err f) = refused_by f
+
+-- and where the chain may have ended
 abbrev pub from_start : Chain → Result (Option Start) RackFault → Walked
-from_start c (Ok (Some s)) = walk_by c.access (rows_of c.table.now) s.place (InGroup s.group s.first) 0 s.rest.now
+from_start c (Ok (Some s)) = from_item c s
 from_start c (Ok None) = ended
 from_start c (Err f) = refused_by f
 

@@ -24,11 +24,13 @@ pub enum Access {
     Read,
 }
 
-impl Command {
-    /// The command of a byte. Refused by status 02 for a byte other than 01, 02 and 04.
-    pub fn from_byte(byte: u8) -> Result<Command, ChainFault>
-        ensures { result ≡ command_of byte }
-    {
+/// The command of a byte. Refused by status 02 for a byte other than 01, 02 and 04.
+impl TryFrom<u8> for Command {
+    type Error = ChainFault;
+
+    ghost try_from_gives = { λ b r. r ≡ command_of b };
+
+    fn try_from(byte: u8) -> Result<Command, ChainFault> {
         match byte {
             0x01 => Ok(Command::Write),
             0x02 => Ok(Command::WriteUnanswered),

@@ -15,7 +15,7 @@ pub enum Layer {
 }
 
 /// Why the data of a message is not a chain, or its answer would be too long: a status, at the index of a data byte.
-#[derive(Clone, Copy)]
+#[derive(Clone, Copy, PartialEq, Eq, Debug)]
 pub enum ChainFault {
     /// What the line found.
     Line(LineFault),
@@ -32,7 +32,7 @@ pub enum ChainFault {
 }
 
 /// Why a message is refused: a status, at the index of a data byte, or what a lower layer found.
-#[derive(Clone, Copy)]
+#[derive(Clone, Copy, PartialEq, Eq, Debug)]
 pub enum RackFault {
     /// What the chain found.
     Chain(ChainFault),
@@ -56,6 +56,7 @@ pub enum RackFault {
     OverLimit { index: usize },
 }
 
+// Both conversions are written out: a derived one has no contract.
 impl From<LineFault> for ChainFault {
     ghost from_gives = { λ f r. r ≡ Line f };
 
@@ -77,12 +78,13 @@ impl ChainFault {
     pub fn code(self) -> u8
         ensures { result ≡ chain_code self }
     {
+        // Matched, not cast: a case that holds an index has no number of its own.
         match self {
             ChainFault::Line(fault) => fault.code(),
             ChainFault::UnknownCommand => 0x02,
-            ChainFault::MissingByte { .. } => 0x22,
-            ChainFault::TopBit { .. } => 0x22,
-            ChainFault::ExtraByte { .. } => 0x22,
+            ChainFault::MissingByte { .. }
+            | ChainFault::TopBit { .. }
+            | ChainFault::ExtraByte { .. } => 0x22,
             ChainFault::AnswerTooLong { .. } => 0x1c,
         }
     }
@@ -94,10 +96,10 @@ impl ChainFault {
         match self {
             ChainFault::Line(fault) => fault.place(),
             ChainFault::UnknownCommand => 0,
-            ChainFault::MissingByte { index } => index,
-            ChainFault::TopBit { index } => index,
-            ChainFault::ExtraByte { index } => index,
-            ChainFault::AnswerTooLong { index } => index,
+            ChainFault::MissingByte { index }
+            | ChainFault::TopBit { index }
+            | ChainFault::ExtraByte { index }
+            | ChainFault::AnswerTooLong { index } => index,
         }
     }
 }
@@ -118,17 +120,17 @@ impl RackFault {
     pub fn code(self) -> u8
         ensures { result ≡ rack_code self }
     {
+        // Matched, not cast: a case that holds an index has no number of its own.
         match self {
             RackFault::Chain(fault) => fault.code(),
             RackFault::NoProcess { .. } => 0x03,
             RackFault::NoParameter { .. } => 0x04,
             RackFault::WrongType { .. } => 0x05,
-            RackFault::NotWritable { .. } => 0x0d,
-            RackFault::Secured { .. } => 0x0d,
+            RackFault::NotWritable { .. } | RackFault::Secured { .. } => 0x0d,
             RackFault::NotReadable { .. } => 0x11,
-            RackFault::BadValue { .. } => 0x06,
-            RackFault::BadLength { .. } => 0x06,
-            RackFault::OverLimit { .. } => 0x06,
+            RackFault::BadValue { .. }
+            | RackFault::BadLength { .. }
+            | RackFault::OverLimit { .. } => 0x06,
         }
     }
 
@@ -138,15 +140,15 @@ impl RackFault {
     {
         match self {
             RackFault::Chain(fault) => fault.place(),
-            RackFault::NoProcess { index } => index,
-            RackFault::NoParameter { index } => index,
-            RackFault::WrongType { index } => index,
-            RackFault::NotWritable { index } => index,
-            RackFault::Secured { index } => index,
-            RackFault::NotReadable { index } => index,
-            RackFault::BadValue { index } => index,
-            RackFault::BadLength { index } => index,
-            RackFault::OverLimit { index } => index,
+            RackFault::NoProcess { index }
+            | RackFault::NoParameter { index }
+            | RackFault::WrongType { index }
+            | RackFault::NotWritable { index }
+            | RackFault::Secured { index }
+            | RackFault::NotReadable { index }
+            | RackFault::BadValue { index }
+            | RackFault::BadLength { index }
+            | RackFault::OverLimit { index } => index,
         }
     }
 }

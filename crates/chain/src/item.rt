@@ -1,4 +1,6 @@
 //! The items of a chain.
+ghost use Rattle.std.specs.Prelude.{◌≡◌};
+ghost use Rattle.chain.specs.Items.{place_of, plain_item, row_of};
 
 /// An item taken from a chain: a write, whose value is a part of the message, or a read.
 #[derive(Clone, Copy)]
@@ -14,6 +16,28 @@ pub enum Item<'a> {
     Read(Query),
 }
 
+impl Item<'_> {
+    /// The number of the row that is written or asked for.
+    pub fn row(self) -> usize
+        ensures { result ≡ row_of (plain_item self.entry) }
+    {
+        match self {
+            Item::Write { row, .. } => row,
+            Item::Read(query) => query.row,
+        }
+    }
+
+    /// The index of the item's first byte: a write's parameter byte, a read's index byte.
+    pub fn place(self) -> usize
+        ensures { result ≡ place_of (plain_item self.entry) }
+    {
+        match self {
+            Item::Write { place, .. } => place,
+            Item::Read(query) => query.place,
+        }
+    }
+}
+
 /// A row that is asked for.
 #[derive(Clone, Copy)]
 pub struct Query {
@@ -25,18 +49,4 @@ pub struct Query {
     pub group: Option<u8>,
     /// The index byte x.
     pub index: u8,
-}
-
-/// A write that is taken, and how many bytes behind its first it takes.
-#[derive(Clone, Copy)]
-pub struct Taken<'a> {
-    pub item: Item<'a>,
-    pub used: usize,
-}
-
-/// A read that is taken, and how many bytes behind its first it takes.
-#[derive(Clone, Copy)]
-pub struct Asked {
-    pub query: Query,
-    pub used: usize,
 }

@@ -18,6 +18,7 @@
 pub mod access;
 pub mod answer;
 pub mod check;
+mod cursor;
 pub mod fault;
 pub mod item;
 pub mod reader;

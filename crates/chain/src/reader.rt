@@ -1,7 +1,8 @@
 //! The reader of a chain: it gives the items one after the other.
-ghost use Rattle.std.specs.Prelude.{◌+◌, ◌^◌, ◌<◌, length};
+ghost use Rattle.std.specs.Prelude.{◌≡◌, ◌+◌};
 
 use crate::access::Access;
+use crate::cursor::Cursor;
 use table::Table;
 
 pub mod steps;
@@ -10,17 +11,20 @@ pub mod steps;
 #[derive(Clone, Copy)]
 pub enum Ahead {
     Group,
+    // Not an `Option` of the byte: behind every item its top bit is asked for, though only the first item repeats it.
     InGroup { group: u8, first: bool },
     End,
 }
 
-/// Where an item of a chain starts: its place, the byte of its group, whether it is the first there, and what is left from it on.
+/// An item of a chain by its first byte: where that stands, the byte of its group, and whether it is the first there.
 #[derive(Clone, Copy)]
-pub struct Start<'a> {
+pub(crate) struct Start<'a> {
     pub place: usize,
     pub group: u8,
     pub first: bool,
-    pub rest: &'a [u8],
+    pub byte: u8,
+    pub behind: Cursor<'a>,
+    ghost next: { behind.at ≡ place + 1 },
 }
 
 /// A chain that is being taken apart, by what is left of it.
@@ -28,9 +32,6 @@ pub struct Start<'a> {
 pub struct Chain<'a> {
     table: &'a Table,
     access: Access,
-    // The bytes left, and the index of the first of them.
-    rest: &'a [u8],
-    at: usize,
+    cursor: Cursor<'a>,
     ahead: Ahead,
-    ghost fits: { at + length rest.now < 2 ^ 64 },
 }

@@ -1,14 +1,18 @@
 // The items of a read.
-ghost use Rattle.std.specs.Prelude.{◌≡◌, ◌+◌, ◌^◌, ◌<◌, ◌≤◌, length, IfOk};
+ghost use Rattle.std.specs.Prelude.{◌≡◌};
 ghost use Rattle.table.specs.Held.{rows_of};
 ghost use Rattle.table.specs.Rows.{plain};
-ghost use Rattle.chain.specs.Chains.{read_at, read_of, read_on};
+ghost use Rattle.chain.specs.Chains.{query, read_at};
+ghost use Rattle.chain.specs.Cursors.{rest, Tells};
 ghost use Rattle.chain.specs.Faults.{top_bit};
-ghost use Rattle.chain.specs.Reader.{asked_of, look_result, verdict_result};
+ghost use Rattle.chain.specs.Items.{plain_item};
+ghost use Rattle.chain.specs.Reader.{look_result, may_read};
 
+use crate::cursor::Cursor;
 use crate::fault::{ChainFault, RackFault};
-use crate::item::{Asked, Query};
-use crate::values::{length_at, missing, type_bits};
+use crate::item::{Item, Query};
+use crate::reader::Start;
+use crate::values::{length_at, type_bits};
 use table::{Row, Table};
 
 // A process or a parameter that a read asks for has its top bit set.
@@ -18,93 +22,64 @@ fn top_bit(index: usize) -> RackFault
     RackFault::Chain(ChainFault::TopBit { index })
 }
 
-// The item whose parameter byte q stands two behind its index byte, on the row that is found for it.
-fn read_on(
-    row: &Row,
-    number: usize,
-    place: usize,
-    group: u8,
-    first: bool,
-    index: u8,
-    parameter: u8,
-    rest: &[u8],
-) -> Result<Asked, RackFault>
-    requires { place + 3 + length rest.now < 2 ^ 64 }
-    ensures value { asked_of result ≡ verdict_result (read_of (plain row.now) number place group first index parameter rest.now) }
-    ensures fits { IfOk result (λ t. t.used ≤ 2 + length rest.now) }
-{
-    if parameter & 0x60 != type_bits(row.kind) {
-        return Err(RackFault::WrongType { index: place + 2 });
+impl Start<'_> {
+    // What a read that starts here asks for.
+    fn query(self, row: usize) -> Query
+        ensures { result ≡ query row self.entry.place self.entry.group self.entry.first self.entry.byte }
+    {
+        Query {
+            row,
+            place: self.place,
+            group: self.first.then_some(self.group),
+            index: self.byte,
+        }
     }
-    if index & 0x60 != parameter & 0x60 {
-        return Err(RackFault::WrongType { index: place + 2 });
+}
+
+// Whether a row may be read under the parameter byte at `index` and the index byte `x`.
+fn may_read(row: &Row, x: u8, parameter: u8, index: usize) -> Result<(), RackFault>
+    ensures { result ≡ may_read (plain row.now) x parameter index }
+{
+    if parameter & 0x60 != type_bits(row.kind) || x & 0x60 != parameter & 0x60 {
+        return Err(RackFault::WrongType { index });
     }
     if !row.readable {
-        return Err(RackFault::NotReadable { index: place + 2 });
+        return Err(RackFault::NotReadable { index });
     }
-    let used = length_at(row.kind, place + 3, rest)?;
-    Ok(Asked {
-        query: Query {
-            row: number,
-            place,
-            group: if first { Some(group) } else { None },
-            index,
-        },
-        used: used + 2,
-    })
+    Ok(())
 }
 
-// The item behind whose process p these bytes stand.
-fn read_parameter(
+/// The item that starts with an index byte. Its row is found by the process p and the parameter q behind that, and never by
+/// the group's byte.
+pub(crate) fn read_item<'a>(
     table: &Table,
-    place: usize,
-    group: u8,
-    first: bool,
-    index: u8,
-    process: u8,
-    rest: &[u8],
-) -> Result<Asked, RackFault>
-    requires { place + 2 + length rest.now < 2 ^ 64 }
-    ensures value { asked_of result ≡ look_result (read_on (rows_of table.now) place group first index process rest.now) }
-    ensures fits { IfOk result (λ t. t.used ≤ 1 + length rest.now) }
+    start: Start<'a>,
+) -> Result<(Item<'a>, Cursor<'a>), RackFault>
+    ensures { Tells plain_item start.entry.behind result (look_result (read_at (rows_of table.now) start.entry.place start.entry.group start.entry.first start.entry.byte (rest start.entry.behind))) }
 {
-    let [parameter, rest @ ..] = rest else {
-        return Err(missing(place + 2));
+    let cursor = start.behind;
+    let index = cursor.at();
+    let Some((process, cursor)) = cursor.next() else {
+        return Err(cursor.missing());
     };
-    if *parameter >= 0x80 {
-        return Err(top_bit(place + 2));
+    if process >= 0x80 {
+        return Err(top_bit(index));
     }
-    let Some(number) = table.find(process, *parameter & 0x1f) else {
-        return Err(RackFault::NoParameter { index: place + 2 });
-    };
-    let Some(row) = table.row(number) else {
-        return Err(RackFault::NoParameter { index: place + 2 });
-    };
-    read_on(row, number, place, group, first, index, *parameter, rest)
-}
-
-/// The item whose index byte x stands at `place`, in the group of the byte `group`. Its row is found by the process p and the
-/// parameter q behind x, and never by the group's byte.
-pub(crate) fn read_item(
-    table: &Table,
-    place: usize,
-    group: u8,
-    first: bool,
-    index: u8,
-    rest: &[u8],
-) -> Result<Asked, RackFault>
-    requires { place + 1 + length rest.now < 2 ^ 64 }
-    ensures value { asked_of result ≡ look_result (read_at (rows_of table.now) place group first index rest.now) }
-    ensures fits { IfOk result (λ t. t.used ≤ length rest.now) }
-{
-    let [process, rest @ ..] = rest else {
-        return Err(missing(place + 1));
-    };
-    if *process >= 0x80 {
-        return Err(top_bit(place + 1));
+    if !table.has_process(process) {
+        return Err(RackFault::NoProcess { index });
     }
-    if !table.has_process(*process) {
-        return Err(RackFault::NoProcess { index: place + 1 });
+    let index = cursor.at();
+    let Some((parameter, cursor)) = cursor.next() else {
+        return Err(cursor.missing());
+    };
+    if parameter >= 0x80 {
+        return Err(top_bit(index));
     }
-    read_parameter(table, place, group, first, index, *process, rest)
+    let Some(number) = table.find(process, parameter & 0x1f) else {
+        return Err(RackFault::NoParameter { index });
+    };
+    let row = table.row(number).unwrap();
+    may_read(row, start.byte, parameter, index)?;
+    let behind = length_at(row.kind, cursor)?;
+    Ok((Item::Read(start.query(number)), behind))
 }

@@ -1,26 +1,14 @@
 // Values and lengths as they stand in a chain.
-ghost use Rattle.std.specs.Prelude.{◌≡◌, ◌+◌, ◌^◌, ◌<◌, ◌≤◌, length, IfOk};
-ghost use Rattle.chain.specs.Faults.{missing};
-ghost use Rattle.chain.specs.Values.{before_zero, length_at, length_byte_at, number_at, open_at, text_at, type_bits, value_at};
-ghost use Rattle.chain.specs.Spelled.{spelled};
+ghost use Rattle.std.specs.Prelude.{◌≡◌, ◌==◌};
+ghost use Rattle.std.specs.List.{position};
+ghost use Rattle.chain.specs.Cursors.{Passes, rest, Tells};
+ghost use Rattle.chain.specs.Values.{length_at, length_byte_at, number_at, open_at, text_at, type_bits, value_at};
 
-use crate::fault::{ChainFault, RackFault};
+use crate::cursor::Cursor;
+use crate::fault::RackFault;
+use number::Number;
 use table::{Kind, Row};
 use value::MAX_LEN;
-
-/// A value, and how many bytes of the chain it takes.
-#[derive(Clone, Copy)]
-pub struct Spelled<'a> {
-    pub value: &'a [u8],
-    pub used: usize,
-}
-
-/// The data ends where a byte is needed: `index` is its length.
-pub(crate) fn missing(index: usize) -> RackFault
-    ensures { result ≡ missing index }
-{
-    RackFault::Chain(ChainFault::MissingByte { index })
-}
 
 /// The type bits of a row's kind in a parameter or index byte.
 pub(crate) fn type_bits(kind: Kind) -> u8
@@ -29,10 +17,8 @@ pub(crate) fn type_bits(kind: Kind) -> u8
     match kind {
         Kind::Char(_) => 0x00,
         Kind::Integer(_) => 0x20,
-        Kind::Long(_) => 0x40,
-        Kind::Float(_) => 0x40,
-        Kind::Text { .. } => 0x60,
-        Kind::OpenText => 0x60,
+        Kind::Long(_) | Kind::Float(_) => 0x40,
+        Kind::Text { .. } | Kind::OpenText => 0x60,
     }
 }
 
@@ -40,127 +26,100 @@ pub(crate) fn type_bits(kind: Kind) -> u8
 fn number_value<'a>(
     row: &Row,
     width: usize,
-    index: usize,
-    rest: &'a [u8],
-) -> Result<Spelled<'a>, RackFault>
-    requires { index + length rest.now < 2 ^ 64 }
-    ensures value { spelled result ≡ number_at row.now.kind width index rest.now }
-    ensures fits { IfOk result (λ s. s.used ≤ length rest.now) }
+    cursor: Cursor<'a>,
+) -> Result<(&'a [u8], Cursor<'a>), RackFault>
+    ensures { Tells (λ v. v.now) cursor.entry result (number_at row.now.kind width cursor.entry.at (rest cursor.entry)) }
 {
-    if rest.len() < width {
-        return Err(missing(index + rest.len()));
-    }
-    let value = &rest[0..width];
+    let Some((value, behind)) = cursor.take(width) else {
+        return Err(cursor.missing());
+    };
     if !row.admits(value) {
-        return Err(RackFault::BadValue { index });
+        return Err(RackFault::BadValue { index: cursor.at() });
     }
-    Ok(Spelled { value, used: width })
+    Ok((value, behind))
 }
 
 // A text of `size` bytes behind its length.
-fn text_value<'a>(size: u8, index: usize, rest: &'a [u8]) -> Result<Spelled<'a>, RackFault>
-    requires { index + length rest.now < 2 ^ 64 }
-    ensures value { spelled result ≡ text_at size index rest.now }
-    ensures fits { IfOk result (λ s. s.used ≤ length rest.now) }
+fn text_value<'a>(size: u8, cursor: Cursor<'a>) -> Result<(&'a [u8], Cursor<'a>), RackFault>
+    ensures { Tells (λ v. v.now) cursor.entry result (text_at size cursor.entry.at (rest cursor.entry)) }
 {
-    let [length, text @ ..] = rest else {
-        return Err(missing(index));
+    let Some((length, text)) = cursor.next() else {
+        return Err(cursor.missing());
     };
-    if *length != size {
-        return Err(RackFault::BadValue { index });
+    if length != size {
+        return Err(RackFault::BadValue { index: cursor.at() });
     }
-    let size = size as usize;
-    if text.len() < size {
-        return Err(missing(index + 1 + text.len()));
-    }
-    Ok(Spelled {
-        value: &text[0..size],
-        used: size + 1,
-    })
+    let Some(taken) = text.take(usize::from(size)) else {
+        return Err(text.missing());
+    };
+    Ok(taken)
 }
 
-// How many bytes stand before the first 00, or all where there is none.
-fn before_zero(bytes: &[u8]) -> usize
-    ensures { result ≡ length (before_zero bytes.now) }
+// The index of the first 00.
+fn first_zero(bytes: &[u8]) -> Option<usize>
+    ensures { result ≡ position (λ b. b == 0) bytes.now }
 {
-    for (i, byte) in bytes.iter().enumerate() {
-        if *byte == 0 {
-            return i;
-        }
-    }
-    bytes.len()
+    bytes.iter().position(|byte| *byte == 0)
 }
 
 // A text between 00 and 00.
-fn open_value<'a>(index: usize, rest: &'a [u8]) -> Result<Spelled<'a>, RackFault>
-    requires { index + length rest.now < 2 ^ 64 }
-    ensures value { spelled result ≡ open_at index rest.now }
-    ensures fits { IfOk result (λ s. s.used ≤ length rest.now) }
+fn open_value<'a>(cursor: Cursor<'a>) -> Result<(&'a [u8], Cursor<'a>), RackFault>
+    ensures { Tells (λ v. v.now) cursor.entry result (open_at cursor.entry.at (rest cursor.entry)) }
 {
-    let [length, text @ ..] = rest else {
-        return Err(missing(index));
+    let Some((length, text)) = cursor.next() else {
+        return Err(cursor.missing());
     };
-    if *length != 0 {
-        return Err(RackFault::BadValue { index });
+    if length != 0 {
+        return Err(RackFault::BadValue { index: cursor.at() });
     }
-    let size = before_zero(text);
+    let bytes = text.rest();
+    let size = first_zero(bytes).unwrap_or(bytes.len());
     if size > MAX_LEN {
-        return Err(RackFault::BadValue { index });
+        return Err(RackFault::BadValue { index: cursor.at() });
     }
-    if size >= text.len() {
-        return Err(missing(index + 1 + text.len()));
-    }
-    Ok(Spelled {
-        value: &text[0..size],
-        used: size + 2,
-    })
+    let Some((ended, behind)) = text.take(size + 1) else {
+        return Err(text.missing());
+    };
+    Ok((&ended[..size], behind))
 }
 
-/// The value that stands at `index` for the row.
+/// The value that stands next for the row.
 pub(crate) fn value_at<'a>(
     row: &Row,
-    index: usize,
-    rest: &'a [u8],
-) -> Result<Spelled<'a>, RackFault>
-    requires { index + length rest.now < 2 ^ 64 }
-    ensures value { spelled result ≡ value_at row.now.kind index rest.now }
-    ensures fits { IfOk result (λ s. s.used ≤ length rest.now) }
+    cursor: Cursor<'a>,
+) -> Result<(&'a [u8], Cursor<'a>), RackFault>
+    ensures { Tells (λ v. v.now) cursor.entry result (value_at row.now.kind cursor.entry.at (rest cursor.entry)) }
 {
     match row.kind {
-        Kind::Char(_) => number_value(row, 1, index, rest),
-        Kind::Integer(_) => number_value(row, 2, index, rest),
-        Kind::Long(_) => number_value(row, 4, index, rest),
-        Kind::Float(_) => number_value(row, 4, index, rest),
-        Kind::Text { len } => text_value(len, index, rest),
-        Kind::OpenText => open_value(index, rest),
+        Kind::Char(_) => number_value(row, u8::width(), cursor),
+        Kind::Integer(_) => number_value(row, u16::width(), cursor),
+        Kind::Long(_) => number_value(row, u32::width(), cursor),
+        Kind::Float(_) => number_value(row, f32::width(), cursor),
+        Kind::Text { len } => text_value(len, cursor),
+        Kind::OpenText => open_value(cursor),
     }
 }
 
-// The length byte of a text that is read: how many bytes it takes.
-fn length_byte_at(size: u8, index: usize, rest: &[u8]) -> Result<usize, RackFault>
-    ensures value { result ≡ length_byte_at size index rest.now }
-    ensures fits { IfOk result (λ k. k ≤ length rest.now) }
+// The place behind the length byte of a text that is read.
+fn length_byte_at<'a>(size: u8, cursor: Cursor<'a>) -> Result<Cursor<'a>, RackFault>
+    ensures { Passes cursor.entry result (length_byte_at size cursor.entry.at (rest cursor.entry)) }
 {
-    let [length, ..] = rest else {
-        return Err(missing(index));
+    let Some((length, behind)) = cursor.next() else {
+        return Err(cursor.missing());
     };
-    if *length != size {
-        return Err(RackFault::BadLength { index });
+    if length != size {
+        return Err(RackFault::BadLength { index: cursor.at() });
     }
-    Ok(1)
+    Ok(behind)
 }
 
-/// The length that stands at `index` for a row that is read: how many bytes it takes.
-pub(crate) fn length_at(kind: Kind, index: usize, rest: &[u8]) -> Result<usize, RackFault>
-    ensures value { result ≡ length_at kind index rest.now }
-    ensures fits { IfOk result (λ k. k ≤ length rest.now) }
+/// The place behind the length that stands next for a row that is read.
+pub(crate) fn length_at<'a>(kind: Kind, cursor: Cursor<'a>) -> Result<Cursor<'a>, RackFault>
+    ensures { Passes cursor.entry result (length_at kind cursor.entry.at (rest cursor.entry)) }
 {
     match kind {
-        Kind::Char(_) => Ok(0),
-        Kind::Integer(_) => Ok(0),
-        Kind::Long(_) => Ok(0),
-        Kind::Float(_) => Ok(0),
-        Kind::Text { len } => length_byte_at(len, index, rest),
-        Kind::OpenText => length_byte_at(0, index, rest),
+        Kind::Char(_) | Kind::Integer(_) | Kind::Long(_) | Kind::Float(_) => Ok(cursor),
+        Kind::Text { len } => length_byte_at(len, cursor),
+        Kind::OpenText => length_byte_at(0, cursor),
     }
 }

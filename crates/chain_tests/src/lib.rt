@@ -23,20 +23,12 @@ mod tests {
 
     // A row that may be read and written.
     fn row(process: u8, parameter: u8, kind: Kind, text: &[u8]) -> Row {
-        let text = match Value::new(text) {
-            Some(value) => value,
-            None => Value::empty(),
-        };
         Row {
             process,
             parameter,
             kind,
-            readable: true,
-            writable: true,
-            secured: false,
-            feed: 0,
-            full_flow: 0,
-            text,
+            text: Value::new(text).unwrap_or(Value::empty()),
+            ..Row::default()
         }
     }
 
@@ -51,16 +43,24 @@ mod tests {
     // Rows 1 to 5 are those of a show rack: two set points on feed 1, a measure, a name and a float. Behind them stand a text
     // of 3 bytes, a char that is only written, and a long.
     fn show_table(rt: &impl Abort) -> Table {
-        let mut first = row(1, 1, integer(32_000), b"");
-        first.feed = 1;
-        first.full_flow = 30_000;
-        let mut second = row(2, 1, integer(32_000), b"");
-        second.feed = 1;
-        second.full_flow = 40_000;
-        let mut measure = row(1, 0, integer(41_942), b"");
-        measure.writable = false;
-        let mut name = row(113, 6, Kind::OpenText, b"HALL");
-        name.secured = true;
+        let first = Row {
+            feed: 1,
+            full_flow: 30_000,
+            ..row(1, 1, integer(32_000), b"")
+        };
+        let second = Row {
+            feed: 1,
+            full_flow: 40_000,
+            ..row(2, 1, integer(32_000), b"")
+        };
+        let measure = Row {
+            writable: false,
+            ..row(1, 0, integer(41_942), b"")
+        };
+        let name = Row {
+            secured: true,
+            ..row(113, 6, Kind::OpenText, b"HALL")
+        };
         let float = Kind::Float(Range {
             least: 0.0,
             greatest: 1000.0,
@@ -71,8 +71,10 @@ mod tests {
             greatest: 100,
             default: 0,
         });
-        let mut hidden = row(5, 2, char, b"");
-        hidden.readable = false;
+        let hidden = Row {
+            readable: false,
+            ..row(5, 2, char, b"")
+        };
         let long = Kind::Long(Range {
             least: 0,
             greatest: 1_000_000,
@@ -95,7 +97,7 @@ mod tests {
         table
     }
 
-    // Status and index of a message: 00 at the data length if it passes.
+    // As a desk is told: 00 at the data length for a chain that passes.
     fn status(table: &Table, access: Access, message: &[u8]) -> (u8, usize) {
         match judge(table, access, message) {
             Ok(()) => (0, message.len()),
@@ -112,11 +114,8 @@ mod tests {
                 4 => Ok(Command::Read),
                 _ => Err((0x02, 0)),
             };
-            let command = match Command::from_byte(byte) {
-                Ok(command) => Ok(command),
-                Err(fault) => Err((fault.code(), fault.place())),
-            };
-            assert!(rt; command == expected);
+            let command = Command::try_from(byte).map_err(|fault| (fault.code(), fault.place()));
+            assert_eq!(rt; command, expected);
         }
     }
 
@@ -300,10 +299,14 @@ mod tests {
     ) -> Result<(), Fail> {
         let mut chain = Chain::new(table, UNLOCKED, message);
         for expected in items {
-            let Ok(Some(Item::Write { row, place, value })) = chain.next() else {
-                return Err(Fail::new("a write comes next"));
+            let Ok(Some(item)) = chain.next() else {
+                return Err(Fail::new("an item comes next"));
+            };
+            let Item::Write { row, place, value } = item else {
+                return Err(Fail::new("the item is a write"));
             };
             assert_eq!(rt; (row, place, value), *expected);
+            assert_eq!(rt; (item.row(), item.place()), (row, place));
         }
         assert!(rt; matches!(chain.next(), Ok(None)));
         Ok(())
@@ -350,10 +353,14 @@ mod tests {
             (4, 13, None, 0x66, b"HALL"),
         ];
         for (number, place, group, index, value) in items {
-            let Ok(Some(Item::Read(query))) = chain.next() else {
-                return Err(Fail::new("a read comes next"));
+            let Ok(Some(item)) = chain.next() else {
+                return Err(Fail::new("an item comes next"));
+            };
+            let Item::Read(query) = item else {
+                return Err(Fail::new("the item is a read"));
             };
             assert_eq!(rt; (query.row, query.place), (number, place));
+            assert_eq!(rt; (item.row(), item.place()), (number, place));
             assert_eq!(rt; (query.group, query.index), (group, index));
             let Some(row) = table.row(number) else {
                 return Err(Fail::new("the row stands"));
@@ -368,31 +375,36 @@ mod tests {
         Ok(())
     }
 
-    // Puts an open text: status and index, or 00 and the answer's length.
-    fn put(answer: &mut ReadAnswer, place: usize, group: Option<u8>, text: &[u8]) -> (u8, usize) {
+    // Puts an open text: the answer's length, or status and index.
+    fn put(
+        answer: &mut ReadAnswer,
+        place: usize,
+        group: Option<u8>,
+        text: &[u8],
+    ) -> Result<usize, (u8, usize)> {
         let query = Query {
             row: 4,
             place,
             group,
             index: 0x66,
         };
-        match answer.put(query, Kind::OpenText, text) {
-            Ok(()) => (0, answer.as_slice().len()),
-            Err(fault) => (fault.code(), fault.place()),
-        }
+        answer
+            .put(query, Kind::OpenText, text)
+            .map_err(|fault| (fault.code(), fault.place()))?;
+        Ok(answer.as_slice().len())
     }
 
     #[test]
     fn answers_of_64_bytes(rt: HostRuntime) {
         let text = b"abcdefghijklmnopqrstuvwx";
         let mut answer = ReadAnswer::new();
-        assert_eq!(rt; put(&mut answer, 2, Some(0x71), text), (0, 29));
-        assert_eq!(rt; put(&mut answer, 6, None, text), (0, 56));
-        assert_eq!(rt; put(&mut answer, 10, None, b"123456"), (0x1c, 10));
-        assert_eq!(rt; put(&mut answer, 11, Some(0x71), b"12345"), (0x1c, 11));
+        assert_eq!(rt; put(&mut answer, 2, Some(0x71), text), Ok(29));
+        assert_eq!(rt; put(&mut answer, 6, None, text), Ok(56));
+        assert_eq!(rt; put(&mut answer, 10, None, b"123456"), Err((0x1c, 10)));
+        assert_eq!(rt; put(&mut answer, 11, Some(0x71), b"12345"), Err((0x1c, 11)));
         assert_eq!(rt; answer.as_slice().len(), 56, "what is refused adds nothing");
-        assert_eq!(rt; put(&mut answer, 10, None, b"12345"), (0, 64));
-        assert_eq!(rt; put(&mut answer, 14, None, b""), (0x1c, 14));
+        assert_eq!(rt; put(&mut answer, 10, None, b"12345"), Ok(64));
+        assert_eq!(rt; put(&mut answer, 14, None, b""), Err((0x1c, 14)));
     }
 
     fn on_the_line(fault: LineFault) -> Result<(), LineFault> {

@@ -1,6 +1,9 @@
 -- Laying defaults over the values of a store, row by row.
-use Rattle.std.proofs.Common.{◌≡◌, ℕ, zero, suc, ◌+◌, ◌<◌, ◌≤◌, Bool, true, false, cond, ltb, List, [], ◌∷◌, ◌++◌, map, length, get_or, take, drop, set, Some, None, sym, refl, ap, ◌∙◌, ⊎_elim, add-one, arith, lt-ltb, le-leb}
+use Rattle.std.proofs.Common.{◌≡◌, ℕ, zero, suc, ◌+◌, ◌<◌, ◌≤◌, Bool, true, false, cond, ltb, List, [], ◌∷◌, ◌++◌, map, length, get_or, take, drop, set, Option, Some, None, sym, refl, ap, ◌∙◌, ⊎_elim, add-one, arith, lt-ltb, le-leb}
 use Rattle.std.proofs.lemmas.Bool.{cases_Bool, cond-true, cond-false, ltb-true, ltb-false}
+use Rattle.std.specs.Option.{option_map}
+use Rattle.value.specs.declared.Value.{Value}
+use Rattle.value.specs.Values.{bytes_of}
 use Rattle.table.specs.Rows.{PlainRow}
 use Rattle.table.specs.Draws.{default_bytes, defaults}
 use Rattle.store.specs.Held.{held_after}
@@ -18,27 +21,19 @@ set-one (r ∷ rows) [] i l m = absurd (omega arith)
 set-one (r ∷ rows) (h ∷ held) zero l m = refl
 set-one (r ∷ rows) (h ∷ held) (suc i) l m = ap (λ (xs : List (List ℕ)). default_bytes r ∷ xs) (set-one rows held i (omega arith) (omega arith))
 
-some_default : (b : Bool) (v d : List ℕ) → Some v ≡ cond b (Some d) None → v ≡ d
-some_default true v d e = cc
-some_default false v d e = let z : ◌≡◌ {A = ℕ} 0 1 = cc in absurd (omega arith)
+-- the default that is looked up at a row that stands
+pub default_taken : (b : Bool) (bytes : List ℕ) (o : Option Value) (v : Value) → b ≡ true → option_map bytes_of o ≡ cond b (Some bytes) None → o ≡ Some v → bytes_of v ≡ bytes
+default_taken b bytes o v t e q = let s : Some bytes ≡ Some (bytes_of v) = sym (cond-true b (Some bytes) None t) ∙ sym e ∙ ap (option_map bytes_of) q in cc
 
 -- a turn: the default of row i is kept
-pub keep_one : (rows : List PlainRow) (held now after : List (List ℕ)) (i : ℕ) (v slice : List ℕ) → i < length rows → length rows ≤ 128 → length held ≡ 128 →
-    Some v ≡ cond (ltb i (length rows)) (Some (defaults rows i)) None → slice ≡ v → length slice ≤ 24 →
-    now ≡ laid rows i held → after ≡ held_after now i slice → after ≡ laid rows (i + 1) held
-keep_one rows held now after i v slice l few size e s short n a =
+pub keep_one : (rows : List PlainRow) (held now after : List (List ℕ)) (i : ℕ) (slice : List ℕ) → i < length rows → length rows ≤ 128 → length held ≡ 128 →
+    slice ≡ defaults rows i → length slice ≤ 24 → now ≡ laid rows i held → after ≡ held_after now i slice → after ≡ laid rows (i + 1) held
+keep_one rows held now after i slice l few size d short n a =
     let r = lt-ltb i 128 (omega arith) in
     let f = le-leb (length slice) 24 short in
     let k : after ≡ set now i slice = a ∙ simp (r, f) in
-    let d : slice ≡ defaults rows i = s ∙ some_default (ltb i (length rows)) v (defaults rows i) e in
     k ∙ ap (λ (xs : List (List ℕ)). set xs i slice) n ∙ ap (set (laid rows i held) i) d ∙ set-one rows held i l (omega arith)
     ∙ ap (λ (m : ℕ). laid rows m held) (sym (add-one i))
-
--- row i has a default
-pub has_default : {X : Type 0} (rows : List PlainRow) (i : ℕ) → i < length rows → None ≡ cond (ltb i (length rows)) (Some (defaults rows i)) None → X
-has_default rows i l e =
-    let f : None ≡ Some (defaults rows i) = e ∙ cond-true (ltb i (length rows)) (Some (defaults rows i)) None (lt-ltb i (length rows) l) in
-    let z : ◌≡◌ {A = ℕ} 0 1 = cc in absurd (omega arith)
 
 -- at the end all defaults are kept
 take_rows : (rows : List PlainRow) → take (length rows) (map default_bytes rows) ≡ map default_bytes rows

@@ -8,20 +8,21 @@ use chain::fault::RackFault;
 #[derive(Clone, Copy, PartialEq, Eq, Debug)]
 pub enum AnswerRefusal {
     /// The buffer lent for the answer has fewer than 138 bytes.
-    ShortBuffer,
+    ShortBuffer = 1,
 }
 
 /// The error messages that a rack answers with.
 #[derive(Clone, Copy, PartialEq, Eq, Debug)]
 pub enum ErrorReply {
-    /// 03: the frame cannot be read.
-    Unreadable,
-    /// 05: the message is for another node.
-    OtherNode,
+    /// The frame cannot be read.
+    Unreadable = 0x03,
+    /// The message is for another node.
+    OtherNode = 0x05,
 }
 
 /// What a call that is not refused gives.
-#[derive(Clone, Copy)]
+// A length of 0 stands for no answer, so that what is told can be sent without a case for it.
+#[derive(Clone, Copy, PartialEq, Eq, Debug)]
 pub struct Answered {
     /// How many bytes of answer stand at the start of the buffer; 0 where there is no answer.
     pub len: usize,
@@ -34,9 +35,7 @@ impl AnswerRefusal {
     pub fn number(self) -> u8
         ensures { result ≡ refusal_number self }
     {
-        match self {
-            AnswerRefusal::ShortBuffer => 1,
-        }
+        self as u8
     }
 }
 
@@ -45,9 +44,6 @@ impl ErrorReply {
     pub fn code(self) -> u8
         ensures { result ≡ error_code self }
     {
-        match self {
-            ErrorReply::Unreadable => 0x03,
-            ErrorReply::OtherNode => 0x05,
-        }
+        self as u8
     }
 }

@@ -1,6 +1,5 @@
 -- The indexes of faults fit a byte, since a message has at most 64 data bytes.
-use Rattle.std.proofs.Common.{◌≡◌, ℕ, ◌+◌, ◌<◌, ◌≤◌, Bool, true, false, ◌&&◌, eqb, List, [], ◌∷◌, length, get_or, IfSome, Some, None, Option, sym, refl, subst, ⊎_elim, arith}
-use Rattle.std.proofs.lemmas.Bool.{cases_Bool, cond-true, cond-false}
+use Rattle.std.proofs.Common.{◌≡◌, ℕ, ◌+◌, ◌<◌, ◌≤◌, Bool, true, false, ◌&&◌, eqb, List, [], ◌∷◌, length, get_or, IfSome, Some, None, Err, Option, refl, subst, arith}
 use Rattle.table.specs.Rows.{PlainRow}
 use Rattle.table.specs.Draws.{row_at}
 use Rattle.order.specs.Last.{else}
@@ -13,12 +12,14 @@ use Rattle.chain.specs.Walks.{Found, Walked}
 use Rattle.chain.specs.Chains.{chain_by}
 use Rattle.chain.specs.Locks.{first_secured, lock_of}
 use Rattle.chain.specs.Answers.{Values, read_answer}
-use Rattle.chain.specs.Reader.{chain_of}
+use Rattle.chain.specs.Reader.{chain_of, checked}
 use Rattle.chain_laws.specs.Places.{Ascend, found_places, item_places, Placed}
 use Rattle.chain_laws.proofs.Answers.{places_lie_inside}
 use Rattle.promises.specs.Requests.{Setup}
 use Rattle.promises.specs.Replies.{feeds, feed_refusal, first_on, over_limit, overdrawn, unlocked, write_refusal}
 use Rattle.promises.proofs.Keeping.{first_some}
+use Rattle.promises.proofs.Options.{cond_prop}
+use Rattle.readout.specs.Told.{unless_refused, result_of}
 
 -- what refuses has an index below 256
 abbrev pub Small : Option RackFault → Type 0
@@ -32,11 +33,7 @@ small_secured : (rows : List PlainRow) (fs : List Found) (from end : ℕ) → en
 small_secured rows [] from end h a = tt
 small_secured rows (f ∷ fs) from end h a =
     let low : f.place < end = a.1 in
-    let rest = small_secured rows fs (f.place + 1) end h a.2 in
-    ⊎_elim
-    (λ (t : (f.reached && (row_at rows f.row).secured) ≡ true). subst Small (sym (cond-true _ (Some (Secured f.place)) (first_secured rows fs) t)) (omega arith))
-    (λ (t : (f.reached && (row_at rows f.row).secured) ≡ false). subst Small (sym (cond-false _ (Some (Secured f.place)) (first_secured rows fs) t)) rest)
-    (cases_Bool (f.reached && (row_at rows f.row).secured))
+    cond_prop Small (f.reached && (row_at rows f.row).secured) (Some (Secured f.place)) (first_secured rows fs) (omega arith) (small_secured rows fs (f.place + 1) end h a.2)
 
 small_lock : (b : Bool) (rows : List PlainRow) (fs : List Found) (from end : ℕ) → end ≤ 256 → Ascend from end (found_places fs) → Small (lock_of b rows fs)
 small_lock true rows fs from end h a = tt
@@ -51,11 +48,7 @@ first_below : (rows : List PlainRow) (f : ℕ) (xs : List PlainItem) (from end :
 first_below rows f [] from end h a = tt
 first_below rows f (x ∷ xs) from end h a =
     let low : place_of x < end = a.1 in
-    let rest = first_below rows f xs (place_of x + 1) end h a.2 in
-    ⊎_elim
-    (λ (t : eqb (row_at rows (row_of x)).feed f ≡ true). subst Below (sym (cond-true _ (Some (place_of x)) (first_on rows f xs) t)) (omega arith))
-    (λ (t : eqb (row_at rows (row_of x)).feed f ≡ false). subst Below (sym (cond-false _ (Some (place_of x)) (first_on rows f xs) t)) rest)
-    (cases_Bool (eqb (row_at rows (row_of x)).feed f))
+    cond_prop Below (eqb (row_at rows (row_of x)).feed f) (Some (place_of x)) (first_on rows f xs) (omega arith) (first_below rows f xs (place_of x + 1) end h a.2)
 
 small_feed : (stays : Bool) (o : Option ℕ) → Below o → Small (feed_refusal stays o)
 small_feed stays None b = tt
@@ -74,20 +67,31 @@ small_refusal from end w h p None e = tt
 small_refusal from end w h p (Some g) e = let q = (p.refusal g e).1 in omega arith
 
 -- what refuses a write
-pub small_write : (s : Setup) (h : Values) (rows : List PlainRow) (bytes : List ℕ) → length bytes ≤ 64 → Small (write_refusal s h (chain_of (Write true) rows bytes))
-small_write s h rows [] l = small_else (lock_of (unlocked h) s.rows []) (else (Some (missing 0)) (overdrawn s h [])) (small_lock (unlocked h) s.rows [] 0 0 (omega arith) tt) (omega arith)
-small_write s h rows (c ∷ bs) l =
+small_walk : (s : Setup) (h : Values) (rows : List PlainRow) (bytes : List ℕ) → length bytes ≤ 64 → Small (write_refusal s h (chain_of (Write true) rows bytes))
+small_walk s h rows [] l = small_else (lock_of (unlocked h) s.rows []) (else (Some (missing 0)) (overdrawn s h [])) (small_lock (unlocked h) s.rows [] 0 0 (omega arith) tt) (omega arith)
+small_walk s h rows (c ∷ bs) l =
     let p = (places_lie_inside rows bs).0 (Write true) in
     let end : 1 + length bs ≤ 255 = omega arith in
     let w = chain_by (Write true) rows bs in
     small_else (lock_of (unlocked h) s.rows w.found) (else w.refusal (overdrawn s h w.items)) (small_lock (unlocked h) s.rows w.found 1 (1 + length bs) (omega arith) p.found)
     (small_else w.refusal (overdrawn s h w.items) (small_refusal 1 (1 + length bs) w end p w.refusal refl) (small_overdrawn s h w.items 1 (1 + length bs) (omega arith) p.items (overdrawn s h w.items) refl))
 
-small_answer : (rows : List PlainRow) (h : Values) (bs : List ℕ) → length bs ≤ 63 → (o : Option RackFault) → (read_answer rows h (chain_by Read rows bs)).refusal ≡ o → Small o
-small_answer rows h bs l None e = tt
-small_answer rows h bs l (Some g) e = let q = ((places_lie_inside rows bs).1 h g e).1 in omega arith
+refusing : (o : Option RackFault) (f : RackFault) → Err f ≡ checked o → o ≡ Some f
+refusing None f e = cc
+refusing (Some g) f e = let q : f ≡ g = cc in rw q refl
+
+pub small_write : (s : Setup) (h : Values) (rows : List PlainRow) (bytes : List ℕ) → length bytes ≤ 64 → (f : RackFault) →
+    Err f ≡ checked (write_refusal s h (chain_of (Write true) rows bytes)) → rack_place f < 256
+small_write s h rows bytes l f e = subst Small (refusing (write_refusal s h (chain_of (Write true) rows bytes)) f e) (small_walk s h rows bytes l)
 
 -- what refuses a read
-pub small_read : (rows : List PlainRow) (h : Values) (bytes : List ℕ) → length bytes ≤ 64 → Small (read_answer rows h (chain_of Read rows bytes)).refusal
-small_read rows h [] l = omega arith
-small_read rows h (c ∷ bs) l = small_answer rows h bs (omega arith) (read_answer rows h (chain_by Read rows bs)).refusal refl
+small_told : (o : Option RackFault) (bytes : List ℕ) (f : RackFault) → Err f ≡ unless_refused o bytes → o ≡ Some f
+small_told None bytes f e = cc
+small_told (Some g) bytes f e = let q : f ≡ g = cc in rw q refl
+
+pub small_read : (rows : List PlainRow) (h : Values) (bytes : List ℕ) → length bytes ≤ 64 → (f : RackFault) → Err f ≡ result_of (read_answer rows h (chain_of Read rows bytes)) → rack_place f < 256
+small_read rows h [] l f e = let q : f ≡ missing 0 = cc in rw q (omega arith)
+small_read rows h (c ∷ bs) l f e =
+    let a = read_answer rows h (chain_by Read rows bs) in
+    let q = ((places_lie_inside rows bs).1 h f (small_told a.refusal a.bytes f e)).1 in
+    omega arith

@@ -1,4 +1,3 @@
-pub mod Statuses
 pub mod Indexes
 pub mod Served
 pub mod Framed

@@ -1,3 +1,4 @@
 pub mod Nodes
-pub mod Serving
+pub mod Commands
+pub mod Replies
 pub mod Racks

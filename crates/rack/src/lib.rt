@@ -1,8 +1,8 @@
 //! The rack: it answers frames.
 #![tactic(auto)]
 
+mod frames;
+mod message;
 pub mod node;
 pub mod rack;
 mod replies;
-mod sending;
-mod serving;

@@ -4,6 +4,7 @@ use table::Table;
 
 mod answering;
 mod making;
+mod serving;
 
 /// One node, its table of rows, and the store that keeps their values.
 #[derive(Drop)]

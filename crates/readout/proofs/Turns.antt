@@ -1,10 +1,11 @@
 -- The turns of the loop that puts the answer to a read together.
-use Rattle.std.proofs.Common.{◌≡◌, ℕ, ◌<◌, Bool, true, false, cond, ltb, List, [], ◌∷◌, ◌++◌, length, Some, None, Ok, Err, Option, Result, sym, refl, ap, ◌∙◌, subst, arith}
+use Rattle.std.proofs.Common.{◌≡◌, ℕ, ◌<◌, Bool, true, false, cond, ltb, List, [], ◌∷◌, ◌++◌, length, Some, None, Ok, Err, Option, Result, IsErrAnd, sym, refl, ap, ◌∙◌, subst, arith}
 use Rattle.std.proofs.lemmas.Bool.{cond-true, cond-false}
 use Rattle.std.specs.List.{AllByRecursion}
 use Rattle.table.specs.Rows.{PlainRow}
 use Rattle.table.specs.Draws.{row_at}
 use Rattle.chain.specs.declared.access.Access.TheVariants.{Read}
+use Rattle.chain.specs.declared.answer.ReadAnswer.{ReadAnswer}
 use Rattle.chain.specs.declared.fault.ChainFault.{ChainFault}
 use Rattle.chain.specs.declared.fault.ChainFault.TheVariants.{AnswerTooLong}
 use Rattle.chain.specs.declared.fault.RackFault.{RackFault}
@@ -17,7 +18,7 @@ use Rattle.chain.specs.Reader.{chain_of, given, left}
 use Rattle.chain.specs.Walks.{Walked}
 use Rattle.chain.proofs.Turns.{left_refusal, item_given, end-given, refusal_given}
 use Rattle.chain_laws.proofs.Rows.{rows_found_stand}
-use Rattle.readout.specs.Told.{result_of}
+use Rattle.readout.specs.Told.{answer_of, result_of}
 
 -- the items of a read are for rows of the table
 pub rows_of_table : (rows : List PlainRow) (bs : List ℕ) → AllByRecursion (λ x. row_of x < length rows) (chain_of Read rows bs).items
@@ -29,12 +30,17 @@ pub all_given : (P : PlainItem → Type 0) (w : Walked) (x : PlainItem) → Ok (
 all_given P w x e a = subst (AllByRecursion P) (item_given w x e) a
 
 put_in : (b : Bool) (f : ChainFault) → ◌≡◌ {A = Result (Unit {0}) ChainFault} (Ok tt) (cond b (Err f) (Ok tt)) → b ≡ false
-put_in true f e = let z : ◌≡◌ {A = ℕ} 0 1 = cc in absurd (omega arith)
+put_in true f e = grind arith
 put_in false f e = refl
 
 put_refused : (b : Bool) (f k : ChainFault) → ◌≡◌ {A = Result (Unit {0}) ChainFault} (Err f) (cond b (Err k) (Ok tt)) → (b ≡ true) × (f ≡ k)
 put_refused true f k e = (refl, (cc))
-put_refused false f k e = let z : ◌≡◌ {A = ℕ} 0 1 = cc in absurd (omega arith)
+put_refused false f k e = grind arith
+
+-- `?` hands a refusal on
+pub told_err : (r : Result ReadAnswer RackFault) (f : RackFault) → IsErrAnd r (λ g. g ≡ f) → answer_of r ≡ Err f
+told_err (Ok a) f e = absurd e
+told_err (Err g) f e = ap (λ (h : RackFault). Err h) e
 
 -- What is left of the chain, w, gives the whole answer, behind the bytes that are put together.
 module _ (rows : List PlainRow) (h : Values) (whole : Answer) (bytes : List ℕ) (w : Walked)

@@ -20,7 +20,8 @@ use store::Store;
 use table::Table;
 use value::MAX_LEN;
 
-// Puts the value that the store holds for the row behind the others, as the kind of the row has it.
+// Puts the value that the store holds for the row behind the others, as the kind of the row has it. The row stands, so that
+// the table has it and the store a value for it.
 fn put_row<S: Store>(
     table: &Table,
     store: &S,
@@ -31,14 +32,12 @@ fn put_row<S: Store>(
     ensures answer { result ≡ put_answer query (row_at (rows_of table.now) query.row).kind (values_in (S.Store.held store.now) query.row) (built answer.old) }
     ensures after { built answer.new ≡ put_bytes query (row_at (rows_of table.now) query.row).kind (values_in (S.Store.held store.now) query.row) (built answer.old) }
 {
-    let Some(row) = table.row(query.row) else {
-        return Ok(());
-    };
-    let mut value = [0; MAX_LEN];
-    let Ok(len) = store.ask(query.row, &mut value) else {
-        return Ok(());
-    };
-    answer.put(query, row.kind, &value[0..len])
+    let row = table.row(query.row).unwrap();
+    // A store answers into a buffer that it is lent. A public function for these lines and those in `writing` that are like them would
+    // be longer than they are.
+    let mut buffer = [0; MAX_LEN];
+    let len = store.ask(query.row, &mut buffer).unwrap();
+    answer.put(query, row.kind, &buffer[..len])
 }
 
 /// The answer to the read in the data bytes of a message: 02, then for each item its group's byte, where it is the first of
@@ -54,10 +53,9 @@ pub fn read<'a, S: Store>(
     let mut answer = ReadAnswer::new();
     let mut chain = Chain::new(table, Access::Read, message);
     while let Some(item) = chain.next()? {
-        let Item::Read(query) = item else {
-            continue;
-        };
-        put_row(table, store, &mut answer, query)?;
+        if let Item::Read(query) = item {
+            put_row(table, store, &mut answer, query)?;
+        }
     }
     Ok(answer)
 }

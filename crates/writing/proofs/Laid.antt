@@ -1,22 +1,12 @@
 -- The numbers of the rows, with the items of a write laid over them.
-use Rattle.std.proofs.Common.{◌≡◌, ℕ, ◌+◌, ◌<◌, Bool, true, false, cond, eqb, ◌≢◌, List, [], ◌∷◌, length, get_or, set, Some, None, Option, unwrap_or, sym, refl, ap, ◌∙◌, ⊎_elim, arith, length-set, get_or-set_other, get_or-set_same, below_more}
+use Rattle.std.proofs.Common.{◌≡◌, ℕ, ◌<◌, Bool, true, false, cond, eqb, List, [], ◌∷◌, length, get_or, set, Some, None, unwrap_or, sym, refl, ap, ◌∙◌, ⊎_elim, arith, length-set, get_or-set_other, get_or-set_same}
 use Rattle.std.proofs.lemmas.Bool.{cases_Bool, eqb-true, eqb-false}
-use Rattle.number.specs.Numbers.{integer}
 use Rattle.table.specs.Draws.{number_of}
 use Rattle.chain.specs.Items.{PlainItem, write, read}
 use Rattle.chain.specs.Answers.{Values}
 use Rattle.chain.specs.Kept.{keep_item, keep_all, laid_over}
 use Rattle.chain_laws.proofs.Keeping.{last_counts}
 use Rattle.writing.specs.Numbers.{lay_numbers}
-
--- the number of a value, as it is read
-pub number_read : (n : ℕ) (o : Option ℕ) (v : List ℕ) → n ≡ unwrap_or o 0 → o ≡ integer.reads v → n ≡ number_of v
-number_read n o v e r = e ∙ ap (λ (x : Option ℕ). unwrap_or x 0) r
-
--- one number more is set
-pub numbers_more : (ns : List ℕ) (w : ℕ → ℕ) (i y : ℕ) → i < length ns → y ≡ w i → ((k : ℕ) → k < i → get_or ns k 0 ≡ w k) → (k : ℕ) → k < i + 1 → get_or (set ns i y) k 0 ≡ w k
-numbers_more ns w i y l e h =
-    below_more (λ k. get_or (set ns i y) k 0 ≡ w k) i (λ k b. let ne : k ≢ i = omega arith in rw get_or-set_other (h k b)) (rw get_or-set_same e)
 
 -- an item's number stands for its value
 set_at : (ns : List ℕ) (h : Values) (r : ℕ) (v : List ℕ) (k : ℕ) → k < length ns → get_or ns k 0 ≡ number_of (h k) →

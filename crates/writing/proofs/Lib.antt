@@ -1,5 +1,5 @@
-mod Asked
-mod Turns
+mod Firsts
+mod Giving
 mod Laid
 mod Limits
 mod Whole

@@ -1,5 +1,5 @@
 -- What refuses a write: the checks along the chain, and then the feeds.
-use Rattle.std.proofs.Common.{◌≡◌, ℕ, Bool, true, false, List, [], ◌∷◌, Some, None, Ok, Err, Option, Result, sym, refl, ap, ◌∙◌, arith}
+use Rattle.std.proofs.Common.{◌≡◌, ℕ, Bool, true, false, List, [], ◌∷◌, Some, None, Ok, Err, Option, Result, IsErrAnd, sym, refl, ap, ◌∙◌, arith}
 use Rattle.table.specs.Rows.{PlainRow}
 use Rattle.order.specs.Last.{else}
 use Rattle.chain.specs.declared.access.Access.TheVariants.{Write}
@@ -25,13 +25,18 @@ else-else : (o p q : Option RackFault) → else (else o p) q ≡ else o (else p 
 else-else None p q = refl
 else-else (Some f) p q = refl
 
-told_refusal : (o : Option RackFault) (f : RackFault) → Err f ≡ checked o → o ≡ Some f
-told_refusal None f e = let z : ◌≡◌ {A = ℕ} 0 1 = cc in absurd (omega arith)
-told_refusal (Some g) f e = let q : f ≡ g = cc in ap (λ (x : RackFault). Some x) (sym q)
+pub told_refusal : (o : Option RackFault) (f : RackFault) → Err f ≡ checked o → o ≡ Some f
+told_refusal None f e = grind arith
+told_refusal (Some g) f e = grind arith
 
-told_none : (o : Option RackFault) → Ok tt ≡ checked o → o ≡ None
+pub told_none : (o : Option RackFault) → Ok tt ≡ checked o → o ≡ None
 told_none None e = refl
-told_none (Some g) e = let z : ◌≡◌ {A = ℕ} 0 1 = cc in absurd (omega arith)
+told_none (Some g) e = grind arith
+
+-- `?` hands a refusal on
+pub handed_on : (r : Result (Unit {0}) RackFault) (f : RackFault) → IsErrAnd r (λ g. g ≡ f) → r ≡ Err f
+handed_on (Ok x) f e = absurd e
+handed_on (Err g) f e = ap (λ (h : RackFault). Err h) e
 
 module _ (s : Setup) (h : Values) (m : List ℕ) (u : Bool) (e : u ≡ unlocked h) where
   abbrev reading : Walked
@@ -45,21 +50,16 @@ module _ (s : Setup) (h : Values) (m : List ℕ) (u : Bool) (e : u ≡ unlocked 
       ∙ ap (else o) b
 
   -- what refuses the chain refuses the write
-  pub chain_refuses : (r : Result (Unit {0}) RackFault) (f g : RackFault) → r ≡ Err g → g ≡ f → Err f ≡ checked (chain_of (Write u) s.rows m).refusal → r ≡ checked (write_refusal s h reading)
-  chain_refuses r f g t q a =
-      t ∙ ap (λ (x : RackFault). Err x) q ∙
+  pub chain_refuses : (f : RackFault) → Err f ≡ checked (chain_of (Write u) s.rows m).refusal → Err f ≡ checked (write_refusal s h reading)
+  chain_refuses f a =
       sym (ap checked (by_parts (Some f) (overdrawn s h reading.items) (told_refusal (chain_of (Write u) s.rows m).refusal f a) refl))
 
   -- where nothing does, the feeds have their say
-  pub feeds_refuse : (r : Result (Unit {0}) RackFault) → Ok tt ≡ checked (chain_of (Write u) s.rows m).refusal → r ≡ checked (overdrawn s h reading.items) →
-      r ≡ checked (write_refusal s h reading)
-  feeds_refuse r a t =
-      t ∙ sym (ap checked (by_parts None (overdrawn s h reading.items) (told_none (chain_of (Write u) s.rows m).refusal a) refl))
+  pub feeds_refuse : Ok tt ≡ checked (chain_of (Write u) s.rows m).refusal → checked (overdrawn s h reading.items) ≡ checked (write_refusal s h reading)
+  feeds_refuse a =
+      sym (ap checked (by_parts None (overdrawn s h reading.items) (told_none (chain_of (Write u) s.rows m).refusal a) refl))
 
--- a refused write tells its refusal and keeps nothing
-pub refusal_told : (r : Result (Unit {0}) RackFault) (o : Option RackFault) (f g : RackFault) → r ≡ Err g → g ≡ f → Err f ≡ checked o → r ≡ checked o
-refusal_told r o f g t q e = t ∙ ap (λ (x : RackFault). Err x) q ∙ e
-
+-- a refused write keeps nothing
 pub none_kept : (o : Option RackFault) (f : RackFault) (items : List PlainItem) (held : List (List ℕ)) → Err f ≡ checked o → held ≡ kept_in_store (unless_refused o items) held
 none_kept o f items held e = ap (λ (x : Option RackFault). kept_in_store (unless_refused x items) held) (sym (told_refusal o f e))
 

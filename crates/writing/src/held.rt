@@ -14,18 +14,20 @@ const UNLOCKED: u8 = 64;
 
 // The number that the value of a row is, or `None` if it is no number of this kind.
 fn held_number<N: Number, S: Store>(store: &S, row: usize) -> Option<N>
+    requires { row < 128 }
     ensures { result ≡ N.Number.kind.reads (values_in (S.Store.held store.now) row) }
 {
+    // A store answers into a buffer that it is lent.
     let mut buffer = [0; MAX_LEN];
-    let len = store.ask(row, &mut buffer).unwrap_or(0);
-    N::read(&buffer[0..len])
+    let len = store.ask(row, &mut buffer).unwrap();
+    N::read(&buffer[..len])
 }
 
 /// Whether secured rows may be written.
 pub(crate) fn is_unlocked<S: Store>(store: &S) -> bool
     ensures { result ≡ unlocked (values_in (S.Store.held store.now)) }
 {
-    held_number::<u8, S>(store, 0).unwrap_or(0) == UNLOCKED
+    held_number::<u8, S>(store, 0) == Some(UNLOCKED)
 }
 
 /// What each row counts in a draw at the values that are held.
@@ -33,8 +35,8 @@ pub(crate) fn held_numbers<S: Store>(table: &Table, store: &S) -> RowNumbers
     ensures { (k : ℕ) → k < length (rows_of table.now) → slice_index result k ≡ numbers_in (values_in (S.Store.held store.now)) k }
 {
     let mut numbers = [0; MAX_ROWS];
-    for row in 0..table.len() {
-        numbers[row] = held_number::<u16, S>(store, row).unwrap_or(0);
+    for (row, number) in numbers[..table.len()].iter_mut().enumerate() {
+        *number = held_number::<u16, S>(store, row).unwrap_or(0);
     }
     numbers
 }

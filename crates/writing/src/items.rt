@@ -1,31 +1,46 @@
-// The items of a write that was checked.
-ghost use Rattle.std.specs.Prelude.{◌≡◌, true, drop};
-ghost use Rattle.std.specs.Option.{option_map};
-ghost use Rattle.table.specs.Held.{rows_of};
-ghost use Rattle.chain.specs.declared.access.Access.TheVariants.{Write};
+// The chain of a write, and its items.
+ghost use Rattle.std.specs.Prelude.{◌≡◌};
+ghost use Rattle.std.specs.Iterator.{YieldsFirstBy, item_count};
 ghost use Rattle.chain.specs.Items.{plain_item};
-ghost use Rattle.chain.specs.Reader.{chain_of, remaining};
-ghost use Rattle.writing.specs.Items.{first_item};
+ghost use Rattle.writing.specs.Items.{items_left, items_of};
 
 use chain::access::Access;
 use chain::item::Item;
 use chain::reader::Chain;
 use table::Table;
 
-/// The chain of a message, by the message and the table alone: locked rows are looked at before.
-pub(crate) fn items<'a>(table: &'a Table, message: &'a [u8]) -> Chain<'a>
-    ensures { remaining result ≡ chain_of (Write true) (rows_of table.now) message.now }
-{
-    Chain::new(table, Access::Write { unlocked: true }, message)
+/// The chain of a write: the data bytes of a message, and the table whose rows they name.
+#[derive(Clone, Copy)]
+pub(crate) struct WriteChain<'a> {
+    pub(crate) table: &'a Table,
+    pub(crate) message: &'a [u8],
 }
 
-/// The next item, or `None` where no item is left.
-pub(crate) fn next_item<'a>(chain: &mut Chain<'a>) -> Option<Item<'a>>
-    ensures item { option_map plain_item result ≡ first_item (remaining chain.old).items }
-    ensures rest { (remaining chain.new).items ≡ drop 1 (remaining chain.old).items }
-{
-    let Ok(item) = chain.next() else {
-        return None;
-    };
-    item
+impl<'a> WriteChain<'a> {
+    /// Its items, by the message and the table alone: locked rows are looked at before.
+    pub(crate) fn items(&self) -> Items<'a>
+        ensures { items_left result ≡ items_of self.now }
+    {
+        Items {
+            chain: Chain::new(self.table, Access::Write { unlocked: true }, self.message),
+        }
+    }
+}
+
+/// The items of a chain, one after the other, up to its end or its first refusal.
+#[derive(Drop)]
+pub(crate) struct Items<'a> {
+    chain: Chain<'a>,
+}
+
+impl<'a> Iterator for Items<'a> {
+    type Item = Item<'a>;
+
+    ghost next_gives = { YieldsFirstBy plain_item items_left };
+
+    ghost remaining = { item_count items_left };
+
+    fn next(&mut self) -> Option<Item<'a>> {
+        self.chain.next().ok().flatten()
+    }
 }

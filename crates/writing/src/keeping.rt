@@ -1,34 +1,22 @@
 // Keeping what a write brings.
-ghost use Rattle.std.specs.Prelude.{◌≡◌, true, [], ◌∷◌};
-ghost use Rattle.table.specs.Held.{rows_of};
-ghost use Rattle.chain.specs.declared.access.Access.TheVariants.{Write};
-ghost use Rattle.chain.specs.Items.{plain_item};
-ghost use Rattle.chain.specs.Reader.{chain_of};
+ghost use Rattle.std.specs.Prelude.{◌≡◌};
 ghost use Rattle.promises.specs.Stored.{kept_in_store};
+ghost use Rattle.writing.specs.Items.{items_of};
 
-use crate::items::{items, next_item};
+use crate::items::WriteChain;
 use chain::item::Item;
 use store::Store;
-use table::Table;
 
-// Keeps the value of one item. The store accepts it: it is a value that a row of the table admits.
-fn keep_item<S: Store>(store: &mut S, item: Item)
-    ensures { S.Store.held store.new ≡ kept_in_store (plain_item item.entry ∷ []) (S.Store.held store.old) }
-{
-    match item {
-        Item::Write { row, value, .. } => {
-            let _ = store.keep(row, value);
+impl WriteChain<'_> {
+    /// Keeps the values of the items, one after the other. The store accepts each: it is a value that a row of the table
+    /// admits.
+    pub(crate) fn keep_in<S: Store>(&self, store: &mut S)
+        ensures { S.Store.held store.new ≡ kept_in_store (items_of self.now) (S.Store.held store.old) }
+    {
+        for item in self.items() {
+            if let Item::Write { row, value, .. } = item {
+                let _ = store.keep(row, value);
+            }
         }
-        Item::Read(_) => {}
-    }
-}
-
-/// Keeps the values of a message's items, one after the other.
-pub(crate) fn apply<'a, S: Store>(table: &'a Table, store: &mut S, message: &'a [u8])
-    ensures { S.Store.held store.new ≡ kept_in_store (chain_of (Write true) (rows_of table.now) message.now).items (S.Store.held store.old) }
-{
-    let mut chain = items(table, message);
-    while let Some(item) = next_item(&mut chain) {
-        keep_item(store, item);
     }
 }

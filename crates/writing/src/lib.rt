@@ -7,11 +7,11 @@ ghost use Rattle.chain.specs.declared.access.Access.TheVariants.{Write};
 ghost use Rattle.chain.specs.Reader.{chain_of, checked};
 ghost use Rattle.promises.specs.Replies.{unless_refused, write_refusal};
 ghost use Rattle.promises.specs.Stored.{kept_in_store, values_in};
+ghost use Rattle.writing.specs.Items.{reading_of};
 ghost use Rattle.writing.specs.Setups.{setup_of};
 
-use crate::feeds::check_feeds;
 use crate::held::is_unlocked;
-use crate::keeping::apply;
+use crate::items::WriteChain;
 use chain::access::Access;
 use chain::check::check;
 use chain::fault::RackFault;
@@ -23,19 +23,17 @@ mod held;
 mod items;
 mod keeping;
 
-// Whether a write passes every check, or the first refusal: along the chain, and then of the feeds.
-fn check_write<'a, S: Store>(
-    table: &'a Table,
-    store: &S,
-    message: &'a [u8],
-) -> Result<(), RackFault>
-    ensures { result ≡ checked (write_refusal (setup_of table.now) (values_in (S.Store.held store.now)) (chain_of (Write true) (rows_of table.now) message.now)) }
-{
-    let access = Access::Write {
-        unlocked: is_unlocked(store),
-    };
-    check(table, access, message)?;
-    check_feeds(table, store, message)
+impl WriteChain<'_> {
+    // Whether the write passes every check, or the first refusal: along the chain, and then of the feeds.
+    fn check<S: Store>(&self, store: &S) -> Result<(), RackFault>
+        ensures { result ≡ checked (write_refusal (setup_of self.now.table.now) (values_in (S.Store.held store.now)) (reading_of self.now)) }
+    {
+        let access = Access::Write {
+            unlocked: is_unlocked(store),
+        };
+        check(self.table, access, self.message)?;
+        self.check_feeds(store)
+    }
 }
 
 /// Does the write in the data bytes of a message, whole or not at all. Refused by the first check that fails along the
@@ -49,7 +47,8 @@ pub fn write<'a, S: Store>(
     ensures answer { result ≡ checked (write_refusal (setup_of table.now) (values_in (S.Store.held store.old)) (chain_of (Write true) (rows_of table.now) message.now)) }
     ensures after { S.Store.held store.new ≡ kept_in_store (unless_refused (write_refusal (setup_of table.now) (values_in (S.Store.held store.old)) (chain_of (Write true) (rows_of table.now) message.now)) (chain_of (Write true) (rows_of table.now) message.now).items) (S.Store.held store.old) }
 {
-    check_write(table, store, message)?;
-    apply(table, store, message);
+    let chain = WriteChain { table, message };
+    chain.check(store)?;
+    chain.keep_in(store);
     Ok(())
 }

@@ -1,6 +1,5 @@
 // Putting the answer to a read together.
 ghost use Rattle.std.specs.Prelude.{◌≡◌, ℕ, ◌+◌, ◌≤◌, not, List, [], ◌∷◌, ◌++◌, length, nat_lt};
-ghost use Rattle.line.specs.Calls.{overlaid};
 ghost use Rattle.chain.specs.Answers.{answered, put_answer, put_bytes};
 ghost use Rattle.chain.specs.Built.{built};
 ghost use Rattle.chain.specs.Items.{group_byte};
@@ -15,25 +14,13 @@ use table::Kind;
 /// The command of a read's answer.
 const ANSWERED: u8 = 0x02;
 
-// Copies `from` into `bytes` at a place.
-fn copy_at(bytes: &mut [u8], place: usize, from: &[u8])
-    requires { place + length from.now ≤ length bytes.old }
-    ensures { bytes.new ≡ overlaid bytes.old place from.now }
-{
-    let end = place + from.len();
-    bytes[place..end].copy_from_slice(from);
-}
-
 // How many bytes a value of the kind has in a chain beside its own.
 fn extra_bytes(kind: Kind) -> usize
     ensures value { (v : List ℕ) → length (in_chain kind v) ≡ result + length v }
     ensures bound { result ≤ 2 }
 {
     match kind {
-        Kind::Char(_) => 0,
-        Kind::Integer(_) => 0,
-        Kind::Long(_) => 0,
-        Kind::Float(_) => 0,
+        Kind::Char(_) | Kind::Integer(_) | Kind::Long(_) | Kind::Float(_) => 0,
         Kind::Text { .. } => 1,
         Kind::OpenText => 2,
     }
@@ -44,10 +31,7 @@ fn repeated_bytes(group: Option<u8>) -> usize
     ensures value { result ≡ length (group_byte group) + 1 }
     ensures bound { result ≤ 2 }
 {
-    match group {
-        Some(_) => 2,
-        None => 1,
-    }
+    group.as_slice().len() + 1
 }
 
 impl ReadAnswer {
@@ -65,7 +49,7 @@ impl ReadAnswer {
         ensures value { result.now ≡ built self.now }
         ensures bound { length result.now ≤ 64 }
     {
-        &self.bytes[0..self.len]
+        &self.bytes[..self.len]
     }
 
     /// Puts a row's value behind the others: the group's byte at the first item of a group, the index byte, and the value, text
@@ -78,13 +62,14 @@ impl ReadAnswer {
         if !self.has_room(query, kind, value) {
             return Err(ChainFault::AnswerTooLong { index: query.place });
         }
-        self.append_group(query.group);
+        self.append(query.group.as_slice());
         self.append(&[query.index]);
         self.append_value(kind, value);
         Ok(())
     }
 
     // Whether the answer stays within 64 bytes with a row's value more.
+    // Kind and value are two, since the table gives the one and a store the other.
     fn has_room(&self, query: Query, kind: Kind, value: &[u8]) -> bool
         ensures { result ≡ not (nat_lt 64 (length (built self.now ++ answered query kind value.now))) }
     {
@@ -98,18 +83,9 @@ impl ReadAnswer {
         requires { length (built self.old) + length more.now ≤ 64 }
         ensures { built self.new ≡ built self.old ++ more.now }
     {
-        copy_at(&mut self.bytes, self.len, more);
-        self.len += more.len();
-    }
-
-    // Puts the group's byte behind the others, if there is one.
-    fn append_group(&mut self, group: Option<u8>)
-        requires { length (built self.old) + length (group_byte group) ≤ 64 }
-        ensures { built self.new ≡ built self.old ++ group_byte group }
-    {
-        if let Some(group) = group {
-            self.append(&[group]);
-        }
+        let end = self.len + more.len();
+        self.bytes[self.len..end].copy_from_slice(more);
+        self.len = end;
     }
 
     // Puts a value behind the others, text as it stands in a write.

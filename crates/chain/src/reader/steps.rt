@@ -1,16 +1,19 @@
 // Taking a chain apart.
-ghost use Rattle.std.specs.Prelude.{◌≡◌, ◌+◌, ◌^◌, ◌<◌, ◌≤◌, length, IfSome, IfOk};
+ghost use Rattle.std.specs.Prelude.{◌≡◌};
 ghost use Rattle.table.specs.Held.{rows_of};
-ghost use Rattle.chain.specs.Chains.{look_by, opens_by};
-ghost use Rattle.chain.specs.Reader.{chain_of, from_start, given, left, look_result, remaining, taken_of, told};
+ghost use Rattle.chain.specs.declared.reader.Ahead.TheVariants.{InGroup};
+ghost use Rattle.chain.specs.Chains.{look_by, opens_by, walk_by};
+ghost use Rattle.chain.specs.Cursors.{rest, Tells};
+ghost use Rattle.chain.specs.Items.{plain_item};
+ghost use Rattle.chain.specs.Reader.{chain_of, from_group, from_start, given, left, look_result, remaining, told};
 ghost use Rattle.chain.specs.Walks.{next};
 
 use crate::access::Access;
+use crate::cursor::Cursor;
 use crate::fault::{ChainFault, RackFault};
-use crate::item::{Item, Taken};
+use crate::item::Item;
 use crate::reader::{Ahead, Chain, Start};
 use crate::reads::read_item;
-use crate::values::missing;
 use crate::writes::write_item;
 use table::Table;
 
@@ -30,59 +33,22 @@ fn ahead_of(group: u8, byte: u8) -> Ahead
     }
 }
 
-// The item that starts with `byte`, before `rest`.
-fn item_at<'a>(
-    table: &Table,
-    access: Access,
-    start: Start<'a>,
-    byte: u8,
-    rest: &'a [u8],
-) -> Result<Taken<'a>, RackFault>
-    requires { start.place + 1 + length rest.now < 2 ^ 64 }
-    ensures value { taken_of result ≡ look_result (look_by access (rows_of table.now) start.entry.place start.entry.group start.entry.first byte rest.now) }
-    ensures fits { IfOk result (λ t. t.used ≤ length rest.now) }
-{
-    match access {
-        Access::Write { unlocked } => {
-            write_item(table, unlocked, start.group, start.place, byte, rest)
-        }
-        Access::Read => {
-            let asked = read_item(table, start.place, start.group, start.first, byte, rest)?;
-            Ok(Taken {
-                item: Item::Read(asked.query),
-                used: asked.used,
-            })
-        }
-    }
-}
-
-// Whether a process byte opens a group: in a write, if its process has a row.
-fn opens(table: &Table, access: Access, group: u8) -> bool
-    ensures { result ≡ opens_by access (rows_of table.now) group }
-{
-    match access {
-        Access::Write { .. } => table.has_process(group & 0x7f),
-        Access::Read => true,
-    }
-}
-
 impl<'a> Chain<'a> {
     /// The chain in the data bytes of a message: it stands behind the command, which is at index 0.
     pub fn new(table: &'a Table, access: Access, message: &'a [u8]) -> Chain<'a>
         ensures { remaining result ≡ chain_of access (rows_of table.now) message.now }
     {
-        let at = message.len().min(1);
         Chain {
             table,
             access,
-            rest: &message[at..],
-            at,
+            cursor: Cursor::new(message, 1),
             ahead: Ahead::Group,
         }
     }
 
     /// The next item, or `None` at the end of the chain. Refused by the first check that fails, from left to right; the
     /// chain then stays as it was.
+    // Not an `Iterator`: behind a refusal, one would give it again forever.
     pub fn next(&mut self) -> Result<Option<Item<'a>>, RackFault>
         ensures item { told result ≡ given (remaining self.old) }
         ensures rest { remaining self.new ≡ left (remaining self.old) }
@@ -90,49 +56,73 @@ impl<'a> Chain<'a> {
         let Some(start) = self.start()? else {
             return Ok(None);
         };
-        let [byte, rest @ ..] = start.rest else {
-            return Err(missing(start.place));
-        };
-        let taken = item_at(self.table, self.access, start, *byte, rest)?;
-        self.at = start.place + 1 + taken.used;
-        self.rest = &rest[taken.used..];
-        self.ahead = ahead_of(start.group, *byte);
-        Ok(Some(taken.item))
+        let (item, behind) = self.item_at(start)?;
+        self.cursor = behind;
+        self.ahead = ahead_of(start.group, start.byte);
+        Ok(Some(item))
+    }
+
+    // The item that starts here, and the place behind it. Matched here and in `opens`, since a message's command is data: a step
+    // that is handed in would only move the match to where the chain is made.
+    fn item_at(&self, start: Start<'a>) -> Result<(Item<'a>, Cursor<'a>), RackFault>
+        ensures { Tells plain_item start.entry.behind result (look_result (look_by self.now.access (rows_of self.now.table.now) start.entry.place start.entry.group start.entry.first start.entry.byte (rest start.entry.behind))) }
+    {
+        match self.access {
+            Access::Write { unlocked } => write_item(self.table, unlocked, start),
+            Access::Read => read_item(self.table, start),
+        }
+    }
+
+    // Whether a process byte opens a group: in a write, if its process has a row.
+    fn opens(&self, group: u8) -> bool
+        ensures { result ≡ opens_by self.now.access (rows_of self.now.table.now) group }
+    {
+        match self.access {
+            Access::Write { .. } => self.table.has_process(group & 0x7f),
+            Access::Read => true,
+        }
     }
 
     // Where the next item starts, or `None` at the end of the chain. A process byte that comes first is passed over; in a
     // write its process must have a row.
     fn start(&self) -> Result<Option<Start<'a>>, RackFault>
-        ensures walk { from_start self.now result ≡ remaining self.now }
-        ensures fits { IfOk result (λ o. IfSome o (λ s. s.place + length s.rest.now < 2 ^ 64)) }
+        ensures { from_start self.now result ≡ remaining self.now }
     {
         match self.ahead {
             Ahead::Group => {
-                let [group, rest @ ..] = self.rest else {
-                    return Err(missing(self.at));
+                let Some((group, behind)) = self.cursor.next() else {
+                    return Err(self.cursor.missing());
                 };
-                if !opens(self.table, self.access, *group) {
-                    return Err(RackFault::NoProcess { index: self.at });
+                if !self.opens(group) {
+                    let index = self.cursor.at();
+                    return Err(RackFault::NoProcess { index });
                 }
-                Ok(Some(Start {
-                    place: self.at + 1,
-                    group: *group,
-                    first: true,
-                    rest,
-                }))
+                Ok(Some(self.start_in(group, true, behind)?))
             }
-            Ahead::InGroup { group, first } => Ok(Some(Start {
-                place: self.at,
-                group,
-                first,
-                rest: self.rest,
-            })),
+            Ahead::InGroup { group, first } => Ok(Some(self.start_in(group, first, self.cursor)?)),
             Ahead::End => {
-                if !self.rest.is_empty() {
-                    return Err(RackFault::Chain(ChainFault::ExtraByte { index: self.at }));
+                if !self.cursor.rest().is_empty() {
+                    let index = self.cursor.at();
+                    return Err(RackFault::Chain(ChainFault::ExtraByte { index }));
                 }
                 Ok(None)
             }
         }
+    }
+
+    // The item of a group that starts at a place.
+    fn start_in(&self, group: u8, first: bool, cursor: Cursor<'a>) -> Result<Start<'a>, RackFault>
+        ensures { from_group self.now result ≡ walk_by self.now.access (rows_of self.now.table.now) cursor.entry.at (InGroup group first) 0 (rest cursor.entry) }
+    {
+        let Some((byte, behind)) = cursor.next() else {
+            return Err(cursor.missing());
+        };
+        Ok(Start {
+            place: cursor.at(),
+            group,
+            first,
+            byte,
+            behind,
+        })
     }
 }

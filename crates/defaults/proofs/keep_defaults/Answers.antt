@@ -1,24 +1,19 @@
-use Rattle.std.proofs.Common.{◌<◌, length, ap, ◌∙◌, arith}
+use Rattle.std.proofs.Common.{length, ◌∙◌, arith, lt-ltb}
 use Rattle.table.proofs.Facts.{table_ruled}
+use Rattle.table.specs.Draws.{defaults}
 use Rattle.table.specs.Held.{rows_of}
-use Rattle.value.specs.Values.{bytes_of}
-use Rattle.defaults.proofs.Laying.{keep_one, has_default, laid_all, new_kept}
+use Rattle.defaults.proofs.Laying.{default_taken, keep_one, laid_all, new_kept}
 use Rattle.defaults.proofs.keep_defaults.Goals as goal
-use Rattle.defaults.proofs.keep_defaults.Goals.{in-Some, in_default}
 
 pub loop-number-preserved : goal.loop-number-preserved
 loop-number-preserved g c =
     let held = g.S.Store.held in
     let rows = rows_of c.args.table.now in
-    let l : c.loop-number.number < length rows = omega arith in
-    elim c.match-default_value.branch [
-      | in-Some w ↦
-          ap held w.store-is
-          ∙ keep_one rows (held c.args.store.now) (held c.loop-number.store) (held w.keep.new.self) c.loop-number.number
-          (bytes_of w.in-Some.value) w.as_slice.result.now l (table_ruled c.args.table.now).few (g.met.S.Store.sound c.args.store.now).rows
-          w.in-Some.ensures.value w.as_slice.ensures.value w.as_slice.ensures.bound c.loop-number.invariant w.keep.ensures.after
-      | in_default w ↦ has_default rows c.loop-number.number l w.in_default.ensures.value
-    ]
+    let i = c.loop-number.number in
+    let l = lt-ltb i (length rows) (omega arith) in
+    let d = default_taken _ (defaults rows i) c.default_value.result c.unwrap-value.result l c.default_value.ensures.value c.unwrap-value.ensures in
+    keep_one rows (held c.args.store.now) (held c.loop-number.store) (held c.keep.new.self) i c.as_slice.result.now (omega arith) (table_ruled c.args.table.now).few (g.met.S.Store.sound c.args.store.now).rows
+    (c.as_slice.ensures.value ∙ d) c.as_slice.ensures.bound c.loop-number.invariant c.keep.ensures.after
 
 pub returns : goal.returns
 returns g c =

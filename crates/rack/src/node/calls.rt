@@ -7,8 +7,8 @@ use crate::node::Node;
 /// Why a number is not a node.
 #[derive(Clone, Copy, PartialEq, Eq, Debug)]
 pub enum NodeRefusal {
-    /// 5: it is not 3 to 120.
-    OutOfRange,
+    /// It is not 3 to 120.
+    OutOfRange = 5,
 }
 
 impl NodeRefusal {
@@ -16,9 +16,7 @@ impl NodeRefusal {
     pub fn number(self) -> u8
         ensures { result ≡ node_number self }
     {
-        match self {
-            NodeRefusal::OutOfRange => 5,
-        }
+        self as u8
     }
 }
 
@@ -27,7 +25,7 @@ impl Node {
     pub fn new(number: u8) -> Result<Node, NodeRefusal>
         ensures { number_in result ≡ node_of number }
     {
-        if 3 <= number && number <= 120 {
+        if (3..=120).contains(&number) {
             Ok(Node { number })
         } else {
             Err(NodeRefusal::OutOfRange)

@@ -1,128 +1,43 @@
 // Answering a frame.
-ghost use Rattle.std.specs.Prelude.{◌≡◌, ℕ, ◌≤◌, List, length, is_some, IfOk, Some, Ok, Err};
-ghost use Rattle.line.specs.Calls.{placed, starting_with};
-ghost use Rattle.line.specs.Messages.{Framable, data_msg};
-ghost use Rattle.promises.specs.Replies.{reply_to};
-ghost use Rattle.chain.specs.Answers.{Values};
-ghost use Rattle.promises.specs.Requests.{Setup, frame_request, message_request, unreadable};
+ghost use Rattle.std.specs.Prelude.{◌≡◌, length, IfOk};
+ghost use Rattle.line.specs.Calls.{starting_with};
 ghost use Rattle.promises.specs.Outcomes.{outcome_of};
 ghost use Rattle.promises.specs.Promised.{Promises};
 ghost use Rattle.promises.specs.Runs.{CallAnswered};
 ghost use Rattle.promises.specs.Stored.{values_in};
-ghost use Rattle.promises.specs.Wires.{answer_mark, call_over, wire_of};
-ghost use Rattle.rack.specs.Racks.{frame_for, held_on, read_with, reply_on};
-ghost use Rattle.rack.specs.Serving.{setup};
+ghost use Rattle.promises.specs.Wires.{call_over};
+ghost use Rattle.rack.specs.Racks.{frame_asks, setup_of, Serves};
+ghost use Rattle.rack.specs.Replies.{marked_reply, Framed};
 
+use crate::frames::{read_frame, send, under, unreadable};
+use crate::message::DataMessage;
 use crate::rack::Rack;
-use crate::sending::send;
-use crate::serving::serve;
-use chain::fault::{ChainFault, RackFault};
-use line::fault::LineFault;
+use crate::replies::{Answer, Served};
 use line::framing::{Framing, MAX_FRAME};
-use line::message::{MAX_DATA, Message, Unpacked};
-use line::refusal::{Flaw, ReadRefusal};
-use promises::outcome::{AnswerRefusal, Answered, ErrorReply};
+use line::message::{MAX_DATA, Message};
+use promises::outcome::{AnswerRefusal, Answered};
 use store::Store;
 
-// The mark and the message of a frame, whose data bytes then stand in `space`.
-fn read_frame<F: Framing>(
-    framing: &F,
-    frame: &[u8],
-    space: &mut [u8; MAX_DATA],
-) -> Result<(F::Mark, Unpacked), Flaw>
-    ensures read { read_with result space.new ≡ (F.Framing.rule framing.now).reads frame.now }
-{
-    match framing.read(frame, space) {
-        Ok(read) => Ok(read),
-        Err(ReadRefusal::Unreadable(flaw)) => Err(flaw),
-        Err(ReadRefusal::ShortBuffer) => unreachable(),
-    }
-}
-
-// The mark of an answer: the request's, and an error's is told from that and the request's node.
-fn mark_of<F: Framing>(framing: &F, mark: F::Mark, node: u8, answer: Unpacked) -> F::Mark
-    ensures { (bytes out : List ℕ) → result ≡ answer_mark (F.Framing.rule framing.now) mark (data_msg node bytes) (placed answer out) }
-{
-    match answer {
-        Unpacked::Data { .. } => mark,
-        Unpacked::Error { .. } => framing.error_mark(mark, node),
-    }
-}
-
-// Answers a frame that cannot be read, where its framing says that it is answered.
-fn answer_unreadable<F: Framing>(framing: &F, flaw: Flaw, buffer: &mut [u8]) -> Answered
-    requires { 138 ≤ length buffer.old }
-    ensures len { (s : Setup) (h : Values) → result.len ≡ length (frame_for (F.Framing.rule framing.now) (Err flaw) (reply_to s h (unreadable flaw (is_some (F.Framing.rule framing.now).unreadable_mark))).message) }
-    ensures after { (s : Setup) (h : Values) → buffer.new ≡ starting_with (frame_for (F.Framing.rule framing.now) (Err flaw) (reply_to s h (unreadable flaw (is_some (F.Framing.rule framing.now).unreadable_mark))).message) buffer.old }
-    ensures fault { (s : Setup) (h : Values) → result.fault ≡ (reply_to s h (unreadable flaw (is_some (F.Framing.rule framing.now).unreadable_mark))).fault }
-{
-    let error = Unpacked::Error {
-        code: ErrorReply::Unreadable.code(),
-    };
-    let len = match framing.unreadable_mark() {
-        Some(mark) => send(framing, mark, error, &[], buffer),
-        None => 0,
-    };
-    Answered {
-        len,
-        fault: Some(RackFault::Chain(ChainFault::Line(LineFault::Unreadable(flaw)))),
-    }
-}
-
 impl<S: Store> Rack<S> {
-    // Answers a data message that was read under `mark`.
-    fn answer_data<F: Framing>(
-        &mut self,
-        framing: &F,
-        mark: F::Mark,
-        node: u8,
-        bytes: &[u8],
-        buffer: &mut [u8],
-    ) -> Answered
-        requires { (138 ≤ length buffer.old) × (length bytes.now ≤ 64) }
-        ensures len { result.len ≡ length (frame_for (F.Framing.rule framing.now) (Ok (mark, data_msg node bytes.now)) (reply_on (setup self.old.node.number self.old.table) (S.Store.held self.old.store) (message_request (setup self.old.node.number self.old.table) (data_msg node bytes.now))).message) }
-        ensures after { buffer.new ≡ starting_with (frame_for (F.Framing.rule framing.now) (Ok (mark, data_msg node bytes.now)) (reply_on (setup self.old.node.number self.old.table) (S.Store.held self.old.store) (message_request (setup self.old.node.number self.old.table) (data_msg node bytes.now))).message) buffer.old }
-        ensures fault { result.fault ≡ (reply_on (setup self.old.node.number self.old.table) (S.Store.held self.old.store) (message_request (setup self.old.node.number self.old.table) (data_msg node bytes.now))).fault }
-        ensures held { S.Store.held self.new.store ≡ held_on (setup self.old.node.number self.old.table) (S.Store.held self.old.store) (message_request (setup self.old.node.number self.old.table) (data_msg node bytes.now)) }
-        ensures same { (self.new.node ≡ self.old.node) × (self.new.table ≡ self.old.table) }
-    {
-        let mut out = [0; MAX_DATA];
-        let own = self.node.number();
-        let served = serve(own, &self.table, &mut self.store, node, bytes, &mut out);
-        let len = match served.answer {
-            Some(answer) => {
-                let mark = mark_of(framing, mark, node, answer);
-                send(framing, mark, answer, &out, buffer)
-            }
-            None => 0,
-        };
-        Answered {
-            len,
-            fault: served.fault,
-        }
-    }
-
-    // Answers a frame, with room for any answer.
-    fn answer_frame<F: Framing>(&mut self, framing: &F, frame: &[u8], buffer: &mut [u8]) -> Answered
-        requires { 138 ≤ length buffer.old }
-        ensures len { result.len ≡ length (frame_for (F.Framing.rule framing.now) ((F.Framing.rule framing.now).reads frame.now) (reply_on (setup self.old.node.number self.old.table) (S.Store.held self.old.store) (frame_request (setup self.old.node.number self.old.table) (is_some (F.Framing.rule framing.now).unreadable_mark) ((wire_of (F.Framing.rule framing.now)).reads frame.now))).message) }
-        ensures after { buffer.new ≡ starting_with (frame_for (F.Framing.rule framing.now) ((F.Framing.rule framing.now).reads frame.now) (reply_on (setup self.old.node.number self.old.table) (S.Store.held self.old.store) (frame_request (setup self.old.node.number self.old.table) (is_some (F.Framing.rule framing.now).unreadable_mark) ((wire_of (F.Framing.rule framing.now)).reads frame.now))).message) buffer.old }
-        ensures fault { result.fault ≡ (reply_on (setup self.old.node.number self.old.table) (S.Store.held self.old.store) (frame_request (setup self.old.node.number self.old.table) (is_some (F.Framing.rule framing.now).unreadable_mark) ((wire_of (F.Framing.rule framing.now)).reads frame.now))).fault }
-        ensures held { S.Store.held self.new.store ≡ held_on (setup self.old.node.number self.old.table) (S.Store.held self.old.store) (frame_request (setup self.old.node.number self.old.table) (is_some (F.Framing.rule framing.now).unreadable_mark) ((wire_of (F.Framing.rule framing.now)).reads frame.now)) }
-        ensures same { (self.new.node ≡ self.old.node) × (self.new.table ≡ self.old.table) }
+    // Serves a frame: the answer, if there is one, is under its mark.
+    fn serve_frame<F: Framing>(&mut self, framing: &F, frame: &[u8]) -> Served<(F::Mark, Answer)>
+        ensures served { Serves S.Store.held self.old (frame_asks (F.Framing.rule framing.now) (setup_of self.old) frame.now) (marked_reply result) self.new }
+        ensures framed { Framed (F.Framing.rule framing.now) ((F.Framing.rule framing.now).reads frame.now) result }
     {
         let mut space = [0; MAX_DATA];
         match read_frame(framing, frame, &mut space) {
-            Ok((mark, unpacked)) => match unpacked.message(&space) {
+            // One match in the other: a pattern that takes both apart is not covered by the borrow checker.
+            Ok((mark, message)) => match message {
                 Message::Data { node, bytes } => {
-                    self.answer_data(framing, mark, node, bytes, buffer)
+                    let served = self.serve(DataMessage { node, bytes });
+                    under(framing, mark, node, served)
                 }
-                Message::Error { .. } => Answered {
-                    len: 0,
+                Message::Error { .. } => Served {
+                    answer: None,
                     fault: None,
                 },
             },
-            Err(flaw) => answer_unreadable(framing, flaw, buffer),
+            Err(flaw) => unreadable(framing, flaw),
         }
     }
 
@@ -140,15 +55,20 @@ impl<S: Store> Rack<S> {
         frame: &[u8],
         buffer: &mut [u8],
     ) -> Result<Answered, AnswerRefusal>
-        ensures answered { CallAnswered (setup self.old.node.number self.old.table) (call_over (F.Framing.rule framing.now) frame.now buffer.old) (values_in (S.Store.held self.old.store)) (outcome_of result buffer.new) (values_in (S.Store.held self.new.store)) }
+        ensures answered { CallAnswered (setup_of self.old) (call_over (F.Framing.rule framing.now) frame.now buffer.old) (values_in (S.Store.held self.old.store)) (outcome_of result buffer.new) (values_in (S.Store.held self.new.store)) }
         ensures len { IfOk result (λ a. a.len ≡ length (outcome_of result buffer.new).answer) }
         ensures after { buffer.new ≡ starting_with (outcome_of result buffer.new).answer buffer.old }
         ensures same { (self.new.node ≡ self.old.node) × (self.new.table ≡ self.old.table) }
-        ensures promises { Promises (setup self.old.node.number self.old.table) }
+        ensures promises { Promises (setup_of self.old) }
     {
         if buffer.len() < MAX_FRAME {
             return Err(AnswerRefusal::ShortBuffer);
         }
-        Ok(self.answer_frame(framing, frame, buffer))
+        let served = self.serve_frame(framing, frame);
+        let len = send(framing, served.answer, buffer);
+        Ok(Answered {
+            len,
+            fault: served.fault,
+        })
     }
 }

@@ -4,7 +4,7 @@ ghost use Rattle.table.specs.Held.{rows_of};
 ghost use Rattle.defaults.specs.Kept.{new_held};
 ghost use Rattle.promises.specs.Runs.{New};
 ghost use Rattle.promises.specs.Stored.{values_in};
-ghost use Rattle.rack.specs.Serving.{setup};
+ghost use Rattle.rack.specs.Racks.{setup};
 
 use crate::node::Node;
 use crate::rack::Rack;

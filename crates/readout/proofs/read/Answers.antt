@@ -1,9 +1,8 @@
-use Rattle.std.proofs.Common.{◌≡◌, ℕ, ◌<◌, List, length, Some, Ok, Err, Option, sym, ap, ◌∙◌, subst, arith}
-use Rattle.std.proofs.lemmas.Result.{err_from_is_err_and}
+use Rattle.std.proofs.Common.{◌≡◌, ℕ, ◌<◌, List, length, Some, Ok, Option, sym, ap, ◌∙◌, subst, arith}
 use Rattle.std.specs.List.{AllByRecursion}
 use Rattle.table.specs.Held.{rows_of}
 use Rattle.chain.specs.declared.access.Access.TheVariants.{Read}
-use Rattle.chain.specs.declared.fault.RackFault.{RackFault}
+use Rattle.chain.specs.declared.fault.RackFault.TheVariants.{Chain}
 use Rattle.chain.specs.declared.item.Item.{Item}
 use Rattle.chain.specs.Answers.{Values, Answer, answer_from, read_answer}
 use Rattle.chain.specs.Built.{built}
@@ -12,8 +11,7 @@ use Rattle.chain.specs.Reader.{chain_of, given, remaining, told}
 use Rattle.chain.specs.Walks.{Walked}
 use Rattle.chain.proofs.Turns.{item_given}
 use Rattle.promises.specs.Stored.{values_in}
-use Rattle.readout.specs.Told.{answer_of}
-use Rattle.readout.proofs.Turns.{rows_of_table, all_given, at_end, at_refusal, passed_over, put_behind, at_too_long}
+use Rattle.readout.proofs.Turns.{told_err, rows_of_table, all_given, at_end, at_refusal, passed_over, put_behind, at_too_long}
 use Rattle.readout.proofs.read.Given as over
 use Rattle.readout.proofs.read.Goals as goal
 use Rattle.readout.proofs.read.Goals.{In-Some}
@@ -53,8 +51,7 @@ loop-item-init g c =
 
 pub returns-in_err-item : goal.returns-in_err-item
 returns-in_err-item g c =
-    let p = err_from_is_err_and c.from_residual.result c.from_residual.ensures.1 in
-    ap answer_of p.1 ∙ ap (λ (f : RackFault). Err f) p.2
+    told_err c.from_residual.result c.in_err-item.field-0.0 c.from_residual.ensures.1
     ∙ at_refusal (rows_of c.args.table.now) (values_in (g.S.Store.held c.args.store.now)) _ (built c.loop-item.answer) (remaining c.loop-item.chain) c.loop-item.invariant.0
     c.in_err-item.field-0.0 c.in_err-item.ensures.item
 
@@ -63,12 +60,12 @@ put_row-requires g c =
     let i = (goal.at.put_row-requires g c).In-Some in
     subst (λ (x : Item). OfTable g i (plain_item x)) c.in-Read.is (of_table g i).0
 
-pub loop-item-smaller : goal.loop-item-smaller
-loop-item-smaller g c = one_fewer g (goal.at.loop-item-smaller g c).In-Some
+pub loop-item-smaller-in-Continue-branch-3 : goal.loop-item-smaller-in-Continue-branch-3
+loop-item-smaller-in-Continue-branch-3 g c = one_fewer g (goal.at.loop-item-smaller-in-Continue-branch-3 g c).In-Some
 
-pub loop-item-preserved : goal.loop-item-preserved
-loop-item-preserved g c =
-    let i = (goal.at.loop-item-preserved g c).In-Some in (
+pub loop-item-preserved-in-Continue-branch-3 : goal.loop-item-preserved-in-Continue-branch-3
+loop-item-preserved-in-Continue-branch-3 g c =
+    let i = (goal.at.loop-item-preserved-in-Continue-branch-3 g c).In-Some in (
       put_behind (rows_of c.args.table.now) (values_of g i) (whole_of g i) (built c.loop-item.answer) (remaining c.loop-item.chain) c.loop-item.invariant.0
           c.in-Read.query (sym (ap (λ (x : Item). Ok (Some (plain_item x))) c.in-Read.is) ∙ item_told g i)
           (built c.put_row.new.answer) (remaining c.next.new.self) c.in_ok-item.ensures.rest
@@ -79,18 +76,17 @@ loop-item-preserved g c =
 pub returns-in_err-put_row : goal.returns-in_err-put_row
 returns-in_err-put_row g c =
     let i = (goal.at.returns-in_err-put_row g c).In-Some in
-    let p = err_from_is_err_and c.from_residual-in_err-put_row.result c.from_residual-in_err-put_row.ensures.1 in
-    ap answer_of p.1 ∙ ap (λ (f : RackFault). Err f) p.2
+    told_err c.from_residual-in_err-put_row.result (Chain c.in_err-put_row.field-0.0) c.from_residual-in_err-put_row.ensures.1
     ∙ at_too_long (rows_of c.args.table.now) (values_of g i) (whole_of g i) (built c.loop-item.answer) (remaining c.loop-item.chain) c.loop-item.invariant.0
     c.in-Read.query (sym (ap (λ (x : Item). Ok (Some (plain_item x))) c.in-Read.is) ∙ item_told g i)
     c.in_err-put_row.field-0.0 c.in_err-put_row.ensures.answer
 
-pub loop-item-smaller-in_default-item : goal.loop-item-smaller-in_default-item
-loop-item-smaller-in_default-item g c = one_fewer g (goal.at.loop-item-smaller-in_default-item g c).In-Some
+pub loop-item-smaller : goal.loop-item-smaller
+loop-item-smaller g c = one_fewer g (goal.at.loop-item-smaller g c).In-Some
 
-pub loop-item-preserved-in_default-item : goal.loop-item-preserved-in_default-item
-loop-item-preserved-in_default-item g c =
-    let i = (goal.at.loop-item-preserved-in_default-item g c).In-Some in (
+pub loop-item-preserved : goal.loop-item-preserved
+loop-item-preserved g c =
+    let i = (goal.at.loop-item-preserved g c).In-Some in (
       passed_over (rows_of c.args.table.now) (values_of g i) (whole_of g i) (built c.loop-item.answer) (remaining c.loop-item.chain) c.loop-item.invariant.0
           _ _ _ (remaining c.next.new.self) (sym (ap (λ (x : Item). Ok (Some (plain_item x))) c.in_default-item.is) ∙ item_told g i) c.in_ok-item.ensures.rest,
       (of_table g i).1,
