@@ -28,6 +28,7 @@ pub trait Store {
 
     /// Writes a row's value at the start of the buffer, and tells its length; the bytes past it stay.
     /// Refuses by 1 if the buffer is shorter than 24 bytes, then by 7 if the row is over 127, and leaves the buffer.
+    // Into a lent buffer, with its length told: a store of another kind need not have its values as a `Value` to hand out.
     fn ask(&self, row: usize, buffer: &mut [u8]) -> Result<usize, AskRefusal>
         ensures answer { result ≡ ask_answer (held self.now) row (length buffer.old) }
         ensures after { buffer.new ≡ buffer_after (held self.now) row buffer.old };
