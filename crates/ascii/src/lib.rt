@@ -130,6 +130,8 @@ impl Framing for Ascii {
 
     ghost lawful = { λ _. ascii_laws };
 
+    // The steps are those of the binary framing too, each with another function and bound: one function for both would take them as
+    // closures and say no less.
     fn decode(&self, frame: &[u8], buffer: &mut [u8; MAX_DATA]) -> Result<((), Unpacked), Flaw> {
         let digits = inner_digits(frame).ok_or(Flaw::NotAFrame)?;
         if digits.len() > 2 * MAX_INNER {

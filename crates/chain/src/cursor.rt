@@ -40,7 +40,7 @@ impl<'a> Cursor<'a> {
     }
 
     /// The next byte and the place behind it, or `None` where the data ends.
-    // An Option and no refusal: each check says by its own let .. else what is missing there.
+    // An `Option` and no refusal, by the project's form: each check is a `let .. else` on its next byte.
     pub(crate) fn next(self) -> Option<(u8, Cursor<'a>)>
         ensures { MatchOption result (rest self.entry ≡ []) (λ p. Next self.entry p.0 p.1) }
     {

@@ -17,7 +17,6 @@ pub fn keep_defaults<S: Store>(table: &Table, store: &mut S)
     // By number, not row by row: that a row has a default is a fact of the table, which no proof here has of the row alone.
     for number in 0..table.len() {
         let value = table.default_value(number).unwrap();
-        // The store accepts it: the row stands, and its default has at most 24 bytes.
-        let _ = store.keep(number, value.as_slice());
+        store.keep(number, value.as_slice()).unwrap();
     }
 }

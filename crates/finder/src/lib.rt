@@ -146,7 +146,7 @@ fn try_here(bytes: &[u8]) -> Attempt
 }
 
 /// The outcome, the place, and how many bytes the frame has: all that `find` promises but for the part itself.
-// Its clauses repeat those of `find`, which then follow without a proof; taking the part here would ask for one at each exit.
+// Its tuple is that of `find` but for the part, and its clauses repeat those of `find`, which then follow without a proof; taking the part here would ask for one at each exit.
 fn locate(received: &[u8]) -> (Outcome, usize, usize)
     ensures outcome { result.0 ≡ (found received.now).0 }
     ensures place { result.1 ≡ (found received.now).1 }

@@ -33,6 +33,7 @@ impl Flaw {
     pub fn number(self) -> u8
         ensures { result ≡ flaw_number self }
     {
+        // Each casts its own: a cast is no operation of a trait.
         self as u8
     }
 }

@@ -20,10 +20,8 @@ pub(crate) fn hear<'a, F: Framing>(
 ) -> Heard<'a>
     ensures { message_of result ≡ message_read ((F.Framing.rule framing.now).reads frame.now) }
 {
-    match framing.decode(frame, buffer) {
-        Ok((_, unpacked)) => Heard(Some(unpacked.message(buffer))),
-        Err(_) => Heard(None),
-    }
+    let decoded = framing.decode(frame, buffer).ok();
+    Heard(decoded.map(|(_, unpacked)| unpacked.message(buffer)))
 }
 
 impl fmt::Display for Heard<'_> {

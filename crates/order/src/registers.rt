@@ -100,7 +100,7 @@ fn write(registers: &mut [u32], row: usize, value: u32) -> Result<(), Missing>
     ensures answer { result_and result (Ok None) ≡ answered (Write row value) registers.old }
     ensures after { registers.new ≡ left (Write row value) registers.old }
 {
-    // not by `get_mut`: of a slice it tells no proof what stands there after the write
+    // Not by `get_mut`: of a slice it tells no proof what stands there after the write.
     if row >= registers.len() {
         return Err(Missing);
     }

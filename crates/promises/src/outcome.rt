@@ -35,6 +35,7 @@ impl AnswerRefusal {
     pub fn number(self) -> u8
         ensures { result ≡ refusal_number self }
     {
+        // Each casts its own: a cast is no operation of a trait.
         self as u8
     }
 }

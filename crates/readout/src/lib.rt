@@ -53,6 +53,7 @@ pub fn read<'a, S: Store>(
     let mut answer = ReadAnswer::new();
     let mut chain = Chain::new(table, Access::Read, message);
     while let Some(item) = chain.next()? {
+        // The items of a read are reads; of a write there would be nothing to tell.
         if let Item::Read(query) = item {
             put_row(table, store, &mut answer, query)?;
         }

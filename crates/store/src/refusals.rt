@@ -14,6 +14,7 @@ impl KeepRefusal {
     pub fn number(self) -> u8
         ensures { result ≡ keep_number self }
     {
+        // Each casts its own: a cast is no operation of a trait.
         self as u8
     }
 }

@@ -22,7 +22,7 @@ impl Row {
         u64::from(value) * u64::from(self.full_flow)
     }
 
-    // The number that the default counts in a draw.
+    // The number that the default counts in a draw: what is no integer counts 0.
     pub(crate) fn default_number(&self) -> u16
         ensures { result ≡ number_of (default_bytes (plain self.now)) }
     {
@@ -53,7 +53,7 @@ fn draw_of(rows: &[Row], feed: u8, values: &RowNumbers) -> u64
 }
 
 // The default of each row as the number that it counts in a draw. Not by `array::from_fn`: with its closure the checker proves the
-// crate, but cannot write down for other crates what it proves.
+// crate, but cannot write down for other crates what it proves; a zip of numbers and rows asks for an invariant over both iterators.
 fn default_numbers(rows: &[Row]) -> RowNumbers
     requires { length rows.now ≤ 128 }
     ensures { (k : ℕ) → k < length rows.now → slice_index result k ≡ default_numbers (map plain rows.now) k }
@@ -83,7 +83,7 @@ impl Table {
         draw_of(rows, feed, &default_numbers(rows))
     }
 
-    // The limit of a feed, 0 for a feed outside 1 to 8.
+    // The limit of a feed: 0 and no `Option` for a feed outside 1 to 8, since the definition of a limit is total.
     pub(crate) fn limit_or_zero(&self, feed: u8) -> u32
         ensures { result ≡ limit_of (limits_of self.now) feed }
     {

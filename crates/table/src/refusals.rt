@@ -29,6 +29,7 @@ impl AddRefusal {
     pub fn number(self) -> u8
         ensures { result ≡ add_number self }
     {
+        // Each casts its own: a cast is no operation of a trait.
         self as u8
     }
 }

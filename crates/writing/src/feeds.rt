@@ -20,7 +20,7 @@ use table::{FEEDS, RowNumbers, Table};
 /// The last feed: they are numbered from 1.
 const LAST_FEED: u8 = FEEDS as u8;
 
-// The feed that a row draws on, 0 where there is no such row.
+// The feed that a row draws on: 0 and no `Option` where there is no such row, since the definition of a row at a place is total.
 fn feed_of(table: &Table, row: usize) -> u8
     ensures { result ≡ (row_at (rows_of table.now) row).feed }
 {
@@ -46,6 +46,7 @@ impl WriteChain<'_> {
         ensures { numbers.new ≡ lay_numbers (items_of self.now) numbers.old }
     {
         for item in self.items() {
+            // The items of a write are writes; a read would count nothing.
             if let Item::Write { row, value, .. } = item {
                 // What is no integer counts 0 in a draw.
                 numbers[row] = u16::read(value).unwrap_or(0);

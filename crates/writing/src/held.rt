@@ -36,6 +36,7 @@ pub(crate) fn held_numbers<S: Store>(table: &Table, store: &S) -> RowNumbers
 {
     let mut numbers = [0; MAX_ROWS];
     for (row, number) in numbers[..table.len()].iter_mut().enumerate() {
+        // What is no integer counts 0 in a draw.
         *number = held_number::<u16, S>(store, row).unwrap_or(0);
     }
     numbers

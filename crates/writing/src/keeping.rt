@@ -14,7 +14,9 @@ impl WriteChain<'_> {
         ensures { S.Store.held store.new ≡ kept_in_store (items_of self.now) (S.Store.held store.old) }
     {
         for item in self.items() {
+            // The items of a write are writes; of a read there would be nothing to keep.
             if let Item::Write { row, value, .. } = item {
+                // No `unwrap`: that the value is one which the row admits is a law of chains, and no clause of the iterator.
                 let _ = store.keep(row, value);
             }
         }

@@ -62,8 +62,8 @@ impl<'a> Chain<'a> {
         Ok(Some(item))
     }
 
-    // The item that starts here, and the place behind it. Matched here and in `opens`, since a message's command is data: a step
-    // that is handed in would only move the match to where the chain is made.
+    // The item that starts here, and the place behind it. Matched here and in `opens`: how items are taken is a
+    // value that callers give, and the public clauses go by that value.
     fn item_at(&self, start: Start<'a>) -> Result<(Item<'a>, Cursor<'a>), RackFault>
         ensures { Tells plain_item start.entry.behind result (look_result (look_by self.now.access (rows_of self.now.table.now) start.entry.place start.entry.group start.entry.first start.entry.byte (rest start.entry.behind))) }
     {

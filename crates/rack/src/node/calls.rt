@@ -16,6 +16,7 @@ impl NodeRefusal {
     pub fn number(self) -> u8
         ensures { result ≡ node_number self }
     {
+        // Each casts its own: a cast is no operation of a trait.
         self as u8
     }
 }

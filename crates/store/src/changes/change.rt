@@ -12,6 +12,7 @@ pub(super) struct Change {
 }
 
 /// What stands in the unused places of a list.
+// Written out: a struct with a ghost field has no derived `Default`.
 impl Default for Change {
     fn default() -> Change {
         Change {
