@@ -109,8 +109,8 @@ def answers(top):
 KINDS = [
     (1, "enums", lambda top: by_pattern(top, r"^\s*(pub(\(\w+\))? )?enum ")),
     (1, "flags: fields, variants and parameters of type bool", lambda top: by_pattern(top, r"\b\w+: bool\b")),
-    (1, "an Option that is turned into a refusal", lambda top: by_pattern(top, r"if let Some\((fault|refusal|e)\)|Some\((refusal|fault)\) => Err")),
-    (1, "a number that stands for none", lambda top: by_pattern(top, r"unwrap_or\(0\)|None => 0|Err\(_\) => 0|== 0 \{")),
+    (1, "an Option that is turned into a refusal", lambda top: by_pattern(top, r"if let Some\((fault|refusal|e)\)|Some\(\w+\) => Err")),
+    (1, "a number that stands for none", lambda top: by_pattern(top, r"unwrap_or\(0\)|map_or\(0|None => 0|Err\(_\) => 0|== 0 \{")),
     (1, "functions that give a case its number", lambda top: by_pattern(top, r"fn (number|code)\(")),
     (2, "functions with bodies alike up to names and numbers", twins),
     (3, "for over a range of numbers", lambda top: by_pattern(top, r"\bfor .* in [^{]*\.\.")),
