@@ -7,14 +7,13 @@
 //! the node and the data (2 to 65), or the code (1). A frame carries no mark.
 #![tactic(auto)]
 
-ghost use Rattle.std.specs.Prelude.{◌≡◌, ◌+◌, ◌*◌, ◌/◌, ◌%◌, ◌<◌, ◌≤◌, ◌∷◌, ◌++◌, length, IfSome, Some};
+ghost use Rattle.std.specs.Prelude.{◌≡◌, ◌+◌, ◌*◌, ◌/◌, ◌%◌, ◌<◌, ◌≤◌, ◌∷◌, length, take, IfSome, Some};
 ghost use Rattle.std.specs.Option.{option_map};
-ghost use Rattle.line.specs.Calls.{buffer_of, told_of};
+ghost use Rattle.line.specs.Calls.{buffer_of, overlaid, starting_with, told_of};
 ghost use Rattle.ascii.specs.Frames.{ascii, framed, inner, opened};
 ghost use Rattle.ascii.specs.Hex.{digit, hexes, spelled, value};
 ghost use Rattle.ascii.specs.Laws.{ascii_laws};
 
-use arrayvec::ArrayVec;
 use line::framable::Framable;
 use line::framing::{Framing, MAX_FRAME};
 use line::message::{MAX_DATA, Message, Unpacked};
@@ -55,45 +54,50 @@ fn digit_value(c: u8) -> Option<u8>
     }
 }
 
-/// Writes each of `bytes` as two digits behind what `frame` holds.
-fn put_hex(frame: &mut ArrayVec<u8, MAX_FRAME>, bytes: &[u8])
-    requires { length frame.old.items + 2 * length bytes.now ≤ 138 }
-    ensures long { length frame.new.items ≡ length frame.old.items + 2 * length bytes.now }
-    ensures laid { frame.new.items ≡ frame.old.items ++ hexes bytes.now }
+/// Writes each of `bytes` as two digits into `frame` from `start` on, and tells where they end.
+fn put_hex(frame: &mut [u8], start: usize, bytes: &[u8]) -> usize
+    requires { start + 2 * length bytes.now ≤ length frame.old }
+    ensures end { result ≡ start + 2 * length bytes.now }
+    ensures laid { frame.new ≡ overlaid frame.old start (hexes bytes.now) }
 {
+    let mut end = start;
     for b in bytes {
         let (high, low) = hex_pair(*b);
-        frame.push(high);
-        frame.push(low);
+        frame[end] = high;
+        frame[end + 1] = low;
+        end += 2;
     }
+    end
 }
 
-/// The frame whose length counts `first` and `rest`.
-fn put_frame(first: u8, rest: &[u8]) -> ArrayVec<u8, MAX_FRAME>
-    requires { length rest.now ≤ 64 }
-    ensures { result.items ≡ framed (first ∷ rest.now) }
+/// Writes the frame whose length counts `first` and `rest`, and tells its own length.
+fn put_frame(frame: &mut [u8], first: u8, rest: &[u8]) -> usize
+    requires { (length rest.now ≤ 64) × (138 ≤ length frame.old) }
+    ensures end { result ≡ length (framed (first ∷ rest.now)) }
+    ensures laid { frame.new ≡ starting_with (framed (first ∷ rest.now)) frame.old }
 {
-    let mut frame = ArrayVec::new();
-    frame.push(b':');
-    put_hex(&mut frame, &[rest.len() as u8 + 1, first]);
-    put_hex(&mut frame, rest);
-    frame.push(b'\r');
-    frame.push(b'\n');
-    frame
+    frame[0] = b':';
+    let start = put_hex(frame, 1, &[rest.len() as u8 + 1, first]);
+    let end = put_hex(frame, start, rest);
+    frame[end] = b'\r';
+    frame[end + 1] = b'\n';
+    end + 2
 }
 
-/// The bytes that pairs of `digits` spell; nothing where `digits` are not such pairs.
-fn get_hex(digits: &[u8]) -> Option<ArrayVec<u8, MAX_INNER>>
+/// Puts the bytes that pairs of `digits` spell at the start of `bytes`, and tells how many they are; nothing where `digits` are not such pairs.
+// Into an array, as each byte has its place: a vector would store its length with each.
+fn get_hex(digits: &[u8], bytes: &mut [u8; MAX_INNER]) -> Option<usize>
     requires { length digits.now ≤ 132 }
-    ensures { option_map (λ bytes. bytes.items) result ≡ spelled digits.now }
+    ensures spells { option_map (λ n. take n bytes.new) result ≡ spelled digits.now }
+    ensures count { IfSome result (λ n. n ≤ 66) }
 {
-    let mut bytes = ArrayVec::new();
-    let mut rest = digits;
-    while let [high, low, tail @ ..] = rest {
-        bytes.push(16 * digit_value(*high)? + digit_value(*low)?);
-        rest = tail;
+    let (pairs, []) = digits.as_chunks::<2>() else {
+        return None;
+    };
+    for (n, [high, low]) in pairs.iter().enumerate() {
+        bytes[n] = 16 * digit_value(*high)? + digit_value(*low)?;
     }
-    rest.is_empty().then_some(bytes)
+    Some(pairs.len())
 }
 
 /// The digits between the start and the end of a frame.
@@ -137,14 +141,15 @@ impl Framing for Ascii {
         if digits.len() > 2 * MAX_INNER {
             return Err(Flaw::NotAFrame);
         }
-        let bytes = get_hex(digits).ok_or(Flaw::NotAFrame)?;
-        open_content(bytes.as_slice(), buffer)
+        let mut bytes = [0; MAX_INNER];
+        let len = get_hex(digits, &mut bytes).ok_or(Flaw::NotAFrame)?;
+        open_content(&bytes[..len], buffer)
     }
 
-    fn encode(&self, _mark: (), message: Framable<'_>) -> ArrayVec<u8, MAX_FRAME> {
+    fn encode_into(&self, _mark: (), message: Framable<'_>, frame: &mut [u8; MAX_FRAME]) -> usize {
         match message.message() {
-            Message::Data { node, bytes } => put_frame(node, bytes),
-            Message::Error { code } => put_frame(code, &[]),
+            Message::Data { node, bytes } => put_frame(frame, node, bytes),
+            Message::Error { code } => put_frame(frame, code, &[]),
         }
     }
 
@@ -208,6 +213,10 @@ mod tests {
         };
         let encoded = Ascii.encode((), Framable::new(message)?);
         assert!(rt; holds(encoded.as_slice(), b":028001\r\n"));
+        let mut frame = [BLANK; MAX_FRAME];
+        let len = Ascii.encode_into((), Framable::new(message)?, &mut frame);
+        assert_eq!(rt; len, 9);
+        assert!(rt; holds(&frame, b":028001\r\n"));
         let error = Ascii.encode((), Framable::new(Message::Error { code: 5 })?);
         assert!(rt; holds(error.as_slice(), b":0105\r\n"));
         Ok(())

@@ -1,3 +1,3 @@
-mod Doubling
+mod Laying
 mod Undoubling
 mod Opening

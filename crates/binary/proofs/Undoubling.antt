@@ -15,6 +15,10 @@ behind_more : (bytes : List ℕ) (b : ℕ) (o : Option (List ℕ)) → behind by
 behind_more bytes b None = refl
 behind_more bytes b (Some p) = ap (λ (z : List ℕ). Some z) (sym (append_assoc bytes (b ∷ []) p))
 
+pub behind_nothing : (bytes : List ℕ) (o : Option (List ℕ)) → bytes ≡ [] → o ≡ behind bytes o
+behind_nothing bytes None e = refl
+behind_nothing bytes (Some p) e = rw e refl
+
 -- what stands behind the first byte, as code cuts it
 abbrev pub others : List ℕ → List ℕ
 others r = take (length r - 1) (drop 1 r)

@@ -7,9 +7,9 @@
 //! A frame's mark is the sequence number and, for an error message, the node.
 #![tactic(auto)]
 
-ghost use Rattle.std.specs.Prelude.{◌≡◌, ◌+◌, ◌*◌, ◌≤◌, ◌++◌, length, Some};
+ghost use Rattle.std.specs.Prelude.{◌≡◌, ◌+◌, ◌*◌, ◌≤◌, [], ◌++◌, length, Some};
 ghost use Rattle.std.specs.Option.{option_map};
-ghost use Rattle.line.specs.Calls.{buffer_of, told_of};
+ghost use Rattle.line.specs.Calls.{buffer_of, overlaid, starting_with, told_of};
 ghost use Rattle.binary.specs.Doubling.{doubled, undoubled};
 ghost use Rattle.binary.specs.Frames.{binary, framed, inner, opened};
 ghost use Rattle.binary.specs.Laws.{binary_laws};
@@ -43,51 +43,55 @@ const ETX: u8 = 0x03;
 /// No frame has more bytes between start and end: the sequence number, the node, the length and 64 data bytes, were each doubled.
 const MAX_INNER: usize = 134;
 
-/// Writes `bytes` with every 10 doubled behind what `frame` holds.
-fn put_doubled(frame: &mut ArrayVec<u8, MAX_FRAME>, bytes: &[u8])
-    requires { length frame.old.items + 2 * length bytes.now ≤ 138 }
-    ensures long { length frame.new.items ≤ length frame.old.items + 2 * length bytes.now }
-    ensures laid { frame.new.items ≡ frame.old.items ++ doubled bytes.now }
+/// Writes `bytes` with every 10 doubled into `frame` from `start` on, and tells where they end.
+fn put_doubled(frame: &mut [u8], start: usize, bytes: &[u8]) -> usize
+    requires { start + 2 * length bytes.now ≤ length frame.old }
+    ensures end { result ≡ start + length (doubled bytes.now) }
+    ensures room { result ≤ start + 2 * length bytes.now }
+    ensures laid { frame.new ≡ overlaid frame.old start (doubled bytes.now) }
 {
+    let mut end = start;
     for b in bytes {
-        frame.push(*b);
+        frame[end] = *b;
+        end += 1;
         if *b == DLE {
-            frame.push(DLE);
+            frame[end] = DLE;
+            end += 1;
         }
     }
+    end
 }
 
-/// The frame that holds `head` and `rest`.
-fn put_frame(head: [u8; 3], rest: &[u8]) -> ArrayVec<u8, MAX_FRAME>
-    requires { length rest.now ≤ 64 }
-    ensures { result.items ≡ framed (head ++ rest.now) }
+/// Writes the frame that holds `head` and `rest`, and tells its length.
+fn put_frame(frame: &mut [u8], head: [u8; 3], rest: &[u8]) -> usize
+    requires { (length rest.now ≤ 64) × (138 ≤ length frame.old) }
+    ensures end { result ≡ length (framed (head ++ rest.now)) }
+    ensures laid { frame.new ≡ starting_with (framed (head ++ rest.now)) frame.old }
 {
-    let mut frame = ArrayVec::new();
-    frame.push(DLE);
-    frame.push(STX);
-    put_doubled(&mut frame, &head);
-    put_doubled(&mut frame, rest);
-    frame.push(DLE);
-    frame.push(ETX);
-    frame
+    frame[0] = DLE;
+    frame[1] = STX;
+    let start = put_doubled(frame, 2, &head);
+    let end = put_doubled(frame, start, rest);
+    frame[end] = DLE;
+    frame[end + 1] = ETX;
+    end + 2
 }
 
-/// The bytes of `text` with the doubling undone; nothing where a 10 has no second one behind it.
-fn get_undoubled(text: &[u8]) -> Option<ArrayVec<u8, MAX_INNER>>
-    requires { length text.now ≤ 134 }
-    ensures { option_map (λ bytes. bytes.items) result ≡ undoubled text.now }
+/// Puts the bytes of `text` with the doubling undone into `bytes`, which has none yet; nothing where a 10 has no second one behind it.
+fn get_undoubled(text: &[u8], bytes: &mut ArrayVec<u8, MAX_INNER>) -> Option<()>
+    requires { (length text.now ≤ 134) × (bytes.old.items ≡ []) }
+    ensures { option_map (λ _. bytes.new.items) result ≡ undoubled text.now }
 {
-    let mut bytes = ArrayVec::new();
     let mut rest = text;
     while let [b, others @ ..] = rest {
+        bytes.push(*b);
         rest = if *b == DLE {
             others.strip_prefix(&[DLE])?
         } else {
             others
         };
-        bytes.push(*b);
     }
-    Some(bytes)
+    Some(())
 }
 
 /// What stands between the start and the end of a frame.
@@ -132,16 +136,17 @@ impl Framing for Binary {
         if text.len() > MAX_INNER {
             return Err(Flaw::NotAFrame);
         }
-        let bytes = get_undoubled(text).ok_or(Flaw::NotAFrame)?;
+        let mut bytes = ArrayVec::new();
+        get_undoubled(text, &mut bytes).ok_or(Flaw::NotAFrame)?;
         open_content(bytes.as_slice(), buffer)
     }
 
-    fn encode(&self, mark: Mark, message: Framable<'_>) -> ArrayVec<u8, MAX_FRAME> {
+    fn encode_into(&self, mark: Mark, message: Framable<'_>, frame: &mut [u8; MAX_FRAME]) -> usize {
         match message.message() {
             Message::Data { node, bytes } => {
-                put_frame([mark.sequence, node, bytes.len() as u8], bytes)
+                put_frame(frame, [mark.sequence, node, bytes.len() as u8], bytes)
             }
-            Message::Error { code } => put_frame([mark.sequence, mark.node, 0], &[code]),
+            Message::Error { code } => put_frame(frame, [mark.sequence, mark.node, 0], &[code]),
         }
     }
 
@@ -241,6 +246,10 @@ mod tests {
         };
         let encoded = Binary.encode(mark, Framable::new(message)?);
         assert!(rt; holds(encoded.as_slice(), frame));
+        let mut again = [BLANK; MAX_FRAME];
+        let len = Binary.encode_into(mark, Framable::new(message)?, &mut again);
+        assert_eq!(rt; len, frame.len());
+        assert!(rt; holds(&again, frame));
         Ok(())
     }
 

@@ -1,3 +1,4 @@
+pub mod Laying
 pub mod Ends
 pub mod Answering
 pub mod Chunks

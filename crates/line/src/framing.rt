@@ -1,6 +1,6 @@
 //! What a framing is: its rule, its calls and its laws.
-ghost use Rattle.std.specs.Prelude.{◌≡◌};
-ghost use Rattle.line.specs.Calls.{buffer_of, read_answer, read_buffer, said, told_of, write_answer, write_buffer};
+ghost use Rattle.std.specs.Prelude.{◌≡◌, length};
+ghost use Rattle.line.specs.Calls.{buffer_of, read_answer, read_buffer, said, starting_with, told_of, write_answer, write_buffer};
 ghost use Rattle.line.specs.Framings.{Laws, Rule};
 
 use crate::framable::Framable;
@@ -12,7 +12,7 @@ use arrayvec::ArrayVec;
 pub const MAX_FRAME: usize = 138;
 
 /// A way of putting messages on the wire. Its calls answer by its rule and change nothing but the buffer that is lent to them.
-/// A framing says how a frame is decoded and encoded; what is refused before that is the same in all.
+/// A framing says how a frame is decoded and encoded into an array; what is refused before that is the same in all.
 pub trait Framing {
     /// What a frame carries beside its message, so that an answer finds its request.
     type Mark: Copy;
@@ -29,9 +29,29 @@ pub trait Framing {
         ensures answer { result ≡ told_of ((rule self.now).reads frame.now) }
         ensures after { buffer.new ≡ buffer_of ((rule self.now).reads frame.now) buffer.old };
 
+    /// Puts the frame of `message` under `mark` at the start of `frame`, and tells its length; bytes past it stay.
+    fn encode_into(
+        &self,
+        mark: Self::Mark,
+        message: Framable<'_>,
+        frame: &mut [u8; MAX_FRAME],
+    ) -> usize
+        ensures answer { result ≡ length ((rule self.now).writes mark (said message.entry.message)) }
+        ensures after { frame.new ≡ starting_with ((rule self.now).writes mark (said message.entry.message)) frame.old };
+
     /// The frame of `message` under `mark`.
     fn encode(&self, mark: Self::Mark, message: Framable<'_>) -> ArrayVec<u8, MAX_FRAME>
-        ensures { result.items ≡ (rule self.now).writes mark (said message.entry.message) };
+        ensures { result.items ≡ (rule self.now).writes mark (said message.entry.message) }
+    {
+        // The frame is made among the elements of the vector: an array beside it would have to be moved in.
+        let mut frame = ArrayVec::from_array_in((), [0; MAX_FRAME]);
+        let Some(bytes) = frame.as_mut_slice().first_chunk_mut() else {
+            unreachable!();
+        };
+        let len = self.encode_into(mark, message, bytes);
+        frame.truncate(len);
+        frame
+    }
 
     /// The mark and the message of `frame`; the data bytes stand at the start of `buffer`, and bytes past them stay.
     /// Refused by 1 where `buffer` has fewer than 64 bytes, then by 8 where `frame` is not a frame. A refusal leaves `buffer` as it was.
@@ -56,13 +76,10 @@ pub trait Framing {
         ensures answer { result ≡ write_answer (rule self.now) mark (said message.entry) frame.old }
         ensures after { frame.new ≡ write_buffer (rule self.now) mark (said message.entry) frame.old }
     {
-        if frame.len() < MAX_FRAME {
+        let Some(frame) = frame.first_chunk_mut() else {
             return Err(WriteRefusal::ShortBuffer);
-        }
-        let encoded = self.encode(mark, Framable::new(message)?);
-        let len = encoded.len();
-        frame[..len].copy_from_slice(encoded.as_slice());
-        Ok(len)
+        };
+        Ok(self.encode_into(mark, Framable::new(message)?, frame))
     }
 
     /// The mark of an error message that answers a request with `mark` and `node`.

@@ -1,9 +1,7 @@
-use Rattle.std.proofs.Common.{◌≡◌, ◌+◌, ◌*◌, ◌++◌, length, take}
+use Rattle.std.proofs.Common.{◌≡◌, ◌+◌, ◌*◌, take}
+use Rattle.line.specs.Calls.{overlaid}
 use Rattle.ascii.specs.Hex.{hexes}
 use Rattle.ascii.proofs.put_hex.Given as goal
 
 abbrev pub invariant-loop-b : goal.invariant-loop-b
-invariant-loop-b l = record {
-  long : length l.frame.items ≡ length l.initial.frame.items + 2 * l.b-index;
-  laid : l.frame.items ≡ l.initial.frame.items ++ hexes (take l.b-index l.bytes);
-}
+invariant-loop-b l = (l.end ≡ l.start + 2 * l.b-index) × (l.frame ≡ overlaid l.initial.frame l.start (hexes (take l.b-index l.bytes)))

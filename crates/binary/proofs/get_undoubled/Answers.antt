@@ -1,25 +1,30 @@
-use Rattle.std.proofs.Common.{◌≡◌, ℕ, ◌+◌, List, length, ap, ◌∙◌, arith, Bor}
-use Rattle.binary.proofs.Undoubling.{others, length-others, plain, twice}
+use Rattle.std.proofs.Common.{◌≡◌, ◌+◌, length, ap, arith, refl}
+use Rattle.binary.specs.Doubling.{undoubled}
+use Rattle.binary.proofs.Undoubling.{behind_nothing, others, length-others, plain, twice}
 use Rattle.binary.proofs.get_undoubled.Goals as goal
-use Rattle.binary.proofs.get_undoubled.Goals.{then-b-eq-DLE+in_ok-rest, else-b-eq-DLE}
+
+pub loop-rest-init : goal.loop-rest-init
+loop-rest-init c = record {
+  long = omega (arith, ap length c.requires.1);
+  undoes = behind_nothing c.args.bytes.now.items (undoubled c.args.text.now) c.requires.1;
+}
+
+pub loop-rest-preserved-in_ok-rest : goal.loop-rest-preserved-in_ok-rest
+loop-rest-preserved-in_ok-rest c =
+    let r = c.loop-rest.rest.now in
+    let one = length-others r in
+    let strip = c.in_ok-rest.ensures.cases in
+    let cut : length c.in_ok-rest.rest.now + 1 ≡ length (others r) = strip.2 in
+    record {
+      long = omega arith;
+      undoes = rw c.push.ensures.items (twice c.args.text.now c.loop-rest.bytes.items r c.in_ok-rest.rest.now c.loop-rest.invariant.undoes c.if-b-eq-DLE.true strip.0 strip.1);
+    }
 
 pub loop-rest-preserved : goal.loop-rest-preserved
 loop-rest-preserved c =
     let r = c.loop-rest.rest.now in
     let one = length-others r in
-    elim c.if-b-eq-DLE.branch [
-      | then-b-eq-DLE+in_ok-rest w ↦
-          let strip = w.in_ok-rest.ensures.cases in
-          let cut : length w.in_ok-rest.rest.now + 1 ≡ length (others r) = strip.2 in
-          let is : c.if-b-eq-DLE.rest.now ≡ w.in_ok-rest.rest.now = ap (λ (z : Bor (List ℕ)). z.now) w.rest-is in
-          record {
-            long = omega (arith, ap length is);
-            undoes = rw c.push.ensures.items (twice c.args.text.now c.loop-rest.bytes.items r c.if-b-eq-DLE.rest.now c.loop-rest.invariant.undoes w.if-b-eq-DLE.true strip.0 (is ∙ strip.1));
-          }
-      | else-b-eq-DLE w ↦
-          let is : c.if-b-eq-DLE.rest.now ≡ others r = ap (λ (z : Bor (List ℕ)). z.now) w.rest-is in
-          record {
-            long = omega (arith, ap length is);
-            undoes = rw c.push.ensures.items (plain c.args.text.now c.loop-rest.bytes.items r c.if-b-eq-DLE.rest.now c.loop-rest.invariant.undoes c.in-len1-up.len_at_least w.if-b-eq-DLE.false is);
-          }
-    ]
+    record {
+      long = omega arith;
+      undoes = rw c.push.ensures.items (plain c.args.text.now c.loop-rest.bytes.items r (others r) c.loop-rest.invariant.undoes c.in-len1-up.len_at_least c.if-b-eq-DLE.false refl);
+    }
