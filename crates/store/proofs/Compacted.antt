@@ -1,74 +1,63 @@
--- Of the changes from the newest to the oldest, the first for each row is the row's newest.
-use Rattle.std.proofs.Common.{◌≡◌, ℕ, ◌<◌, Bool, true, false, cond, not, eqb, List, [], ◌∷◌, ◌++◌, reverse, length, get_or, set, replicate, refl, ap, ◌∙◌, arith, append-nil, length-set}
-use Rattle.std.specs.List.Retain.{RetainsInTurn}
-use Rattle.std.proofs.lemmas.List.{length-reverse, reverse-append, get_or-replicate}
+-- The places of the newest changes, and moving these to the front.
+use Rattle.std.proofs.Common.{◌≡◌, ℕ, ◌+◌, ◌<◌, ◌≤◌, true, false, cond, not, List, [], ◌∷◌, ◌++◌, length, get_or, take, drop, set, replicate, sym, ap, ◌∙◌, subst, arith, eq-eqb, ne_eqb}
+use Rattle.std.proofs.lemmas.List.{append_assoc, drop_more, drop-set-lt, length-map, length-take-le, map_more, map_push, take_more_set}
 use Rattle.arrayvec.specs.ArrayVec.{ArrayVec, with_items}
 use Rattle.arrayvec.proofs.ArrayVecLemmas.{items-with_items}
 use Rattle.store.specs.declared.changes.change.Change.{Change}
-use Rattle.store.specs.ChangeList.{names, newest}
+use Rattle.store.specs.ChangeList.{Entry, names, newest, places_from}
 use Rattle.store.specs.ChangesHeld.{entries_of, entry_of}
-use Rattle.store.proofs.Lists.{get_or-set}
+use Rattle.store.proofs.Places.{Told, places_push}
 
--- the changes whose row was not seen before them
-abbrev pub unseen : List Bool → List Change → List Change
-unseen seen [] = []
-unseen seen (x ∷ xs) = cond (get_or seen x.row false) (unseen (set seen x.row true) xs) (x ∷ unseen (set seen x.row true) xs)
+-- what is left of the list from an entry on
+from_here : (xs : List Change) (i : ℕ) (x : Change) → i < length xs → x ≡ get_or xs i x → entries_of (drop i xs) ≡ entry_of x ∷ entries_of (drop (i + 1) xs)
+from_here xs i x h e = ap entries_of (drop_more xs i x h) ∙ ap (λ (y : Change). entry_of y ∷ entries_of (drop (i + 1) xs)) (sym e)
 
-cond_not : {A : Type 0} (b : Bool) (x y : A) → cond (not b) x y ≡ cond b y x
-cond_not true x y = refl
-cond_not false x y = refl
+entries_length : (xs : List Change) (n : ℕ) → n ≤ length xs → length (entries_of (take n xs)) ≡ n
+entries_length xs n h = length-map (take n xs) entry_of ∙ length-take-le n xs h
 
--- what `retain` leaves where each call keeps its change if the row was not seen, and marks the row
-module _ {F : Type 0} (seen : F → List Bool) (R : F → Change → Bool → F → Change → Type 0)
-    (says : (f : F) (x : Change) (b : Bool) (g : F) (y : Change) → R f x b g y → (b ≡ not (get_or (seen f) x.row false)) × (seen g ≡ set (seen f) x.row true) × (y ≡ x)) where
-  pub retained : (f : F) (xs ys : List Change) → RetainsInTurn R f xs ys → ys ≡ unseen (seen f) xs
-  retained f [] ys h = h
-  retained f (x ∷ xs) ys h =
-      let said = says f x h.0 h.1 h.2 h.3 in
-      let rest = retained h.1 xs h.4 h.5 ∙ ap (λ s. unseen s xs) said.1 in
-      h.6 ∙ (λ i. cond (said.0 i) (said.2 i ∷ rest i) (rest i)) ∙ cond_not (get_or (seen f) x.row false) _ _
+-- ---- `newest_places`
+pub placed : (xs : List Change) (i row place : ℕ) (x : Change) (places : List ℕ) → i < length xs → row ≡ (get_or xs i x).row → place ≡ i → places ≡ places_from 0 (entries_of (take i xs)) (replicate 128 0) → set places row place ≡ places_from 0 (entries_of (take (i + 1) xs)) (replicate 128 0)
+placed xs i row place x places h r p inv =
+    let before = places_from 0 (entries_of (take i xs)) (replicate 128 0) in
+    let l : 0 + length (entries_of (take i xs)) ≡ place = omega (arith, entries_length xs i (omega arith)) in
+    ap (λ ps. set ps row place) inv ∙ ap (λ k. set before k place) r
+    ∙ sym (ap (λ es. places_from 0 es (replicate 128 0)) (map_more entry_of xs i x h) ∙ places_push (entries_of (take i xs)) (entry_of (get_or xs i x)) 0 (replicate 128 0) ∙ ap (λ n. set before (get_or xs i x).row n) l)
 
--- whether a row is seen after the changes
-abbrev seen_after : ℕ → List Bool → List Change → Bool
-seen_after row seen [] = get_or seen row false
-seen_after row seen (x ∷ xs) = seen_after row (set seen x.row true) xs
+-- ---- `newest_to_front`: what stands at the front, and the newest of what is left, are the newest of all; and the places tell the newest of what is left
+abbrev pub Split : List Change → List ℕ → ℕ → ℕ → List Entry → Type 0
+Split xs places i k all = (entries_of (take k xs) ++ newest (entries_of (drop i xs)) ≡ all) × Told i (entries_of (drop i xs)) places
 
-cond_append : (b : Bool) (x : Change) (xs ys : List Change) → cond b (xs ++ ys) (x ∷ (xs ++ ys)) ≡ cond b xs (x ∷ xs) ++ ys
-cond_append true x xs ys = refl
-cond_append false x xs ys = refl
+left-told : (xs : List Change) (places : List ℕ) (i : ℕ) (x : Change) → i < length xs → x ≡ get_or xs i x → Told i (entries_of (drop i xs)) places → Told i (entry_of x ∷ entries_of (drop (i + 1) xs)) places
+left-told xs places i x h e t = let P : List Entry → Type 0 = λ es. Told i es places in subst P (from_here xs i x h e) t
 
-unseen_push : (seen : List Bool) (xs : List Change) (x : Change) → unseen seen (xs ++ x ∷ []) ≡ unseen seen xs ++ cond (seen_after x.row seen xs) [] (x ∷ [])
-unseen_push seen [] x = refl
-unseen_push seen (y ∷ xs) x =
-    let b = get_or seen y.row false in
-    let seen' = set seen y.row true in
-    ap (λ ys. cond b ys (y ∷ ys)) (unseen_push seen' xs x) ∙ cond_append b y (unseen seen' xs) (cond (seen_after x.row seen' xs) [] (x ∷ []))
+pub outlived : (xs : List Change) (all : List Entry) (places : List ℕ) (i k : ℕ) (x : Change) → i < length xs → x ≡ get_or xs i x → (get_or places x.row 0 ≡ i → ⊥) → Split xs places i k all → Split xs places (i + 1) k all
+outlived xs all places i k x h e n s =
+    let rest = entries_of (drop (i + 1) xs) in
+    let t = left-told xs places i x h e s.1 in
+    let b : names x.row rest ≡ true = t.0 ∙ ap not (ne_eqb (get_or places x.row 0) i n) in
+    (sym (ap (λ es. entries_of (take k xs) ++ newest es) (from_here xs i x h e) ∙ ap (λ c. entries_of (take k xs) ++ cond c (newest rest) (entry_of x ∷ newest rest)) b) ∙ s.0, t.1)
 
-seen_after_push : (row : ℕ) (seen : List Bool) (xs : List Change) (x : Change) → row < length seen → seen_after row seen (xs ++ x ∷ []) ≡ cond (eqb x.row row) true (seen_after row seen xs)
-seen_after_push row seen [] x h = get_or-set seen x.row row true false h
-seen_after_push row seen (y ∷ xs) x h = let l = length-set seen y.row true in seen_after_push row (set seen y.row true) xs x (omega arith)
+pub moved : (xs : List Change) (all : List Entry) (places : List ℕ) (i k : ℕ) (x : Change) → i < length xs → k ≤ i → x ≡ get_or xs i x → get_or places x.row 0 ≡ i → Split xs places i k all → Split (set xs k x) places (i + 1) (k + 1) all
+moved xs all places i k x h le e q s =
+    let rest = entries_of (drop (i + 1) xs) in
+    let t = left-told xs places i x h e s.1 in
+    let b : names x.row rest ≡ false = t.0 ∙ ap not (eq-eqb (get_or places x.row 0) i q) in
+    let same = drop-set-lt (i + 1) xs k x (omega arith) in
+    let P : List Change → Type 0 = λ ys. Told (i + 1) (entries_of ys) places in (
+      ap (λ ys. entries_of ys ++ newest (entries_of (drop (i + 1) (set xs k x)))) (take_more_set xs k x (omega arith))
+          ∙ ap (λ es. es ++ newest (entries_of (drop (i + 1) (set xs k x)))) (map_push entry_of (take k xs) x)
+          ∙ ap (λ ys. (entries_of (take k xs) ++ entry_of x ∷ []) ++ newest (entries_of ys)) same
+          ∙ append_assoc (entries_of (take k xs)) (entry_of x ∷ []) (newest rest)
+          ∙ sym (ap (λ es. entries_of (take k xs) ++ newest es) (from_here xs i x h e) ∙ ap (λ c. entries_of (take k xs) ++ cond c (newest rest) (entry_of x ∷ newest rest)) b) ∙ s.0,
+      subst P (sym same) t.1,
+    )
 
-abbrev pub none : List Bool
-none = replicate 128 false
+pub split_same : (xs ys : List Change) (all : List Entry) (places : List ℕ) (i k n : ℕ) → ys ≡ xs → n ≡ k → Split xs places i k all → Split ys places i n all
+split_same xs ys all places i k n e q s =
+    let P : List Change → Type 0 = λ zs. Split zs places i n all in
+    let Q : ℕ → Type 0 = λ m. Split xs places i m all in
+    subst P (sym e) (subst Q (sym q) s)
 
-seen_named : (row : ℕ) (xs : List Change) → row < 128 → seen_after row none (reverse xs) ≡ names row (entries_of xs)
-seen_named row [] h = get_or-replicate 128 row false false h
-seen_named row (x ∷ xs) h =
-    ap (seen_after row none) (reverse-append (x ∷ []) xs) ∙ seen_after_push row none (reverse xs) x h ∙ ap (cond (eqb x.row row) true) (seen_named row xs h)
-
-newest_more : (b : Bool) (x : Change) (xs : List Change) → entries_of (reverse (xs ++ cond b [] (x ∷ []))) ≡ cond b (entries_of (reverse xs)) (entry_of x ∷ entries_of (reverse xs))
-newest_more true x xs = ap (λ ys. entries_of (reverse ys)) (append-nil xs)
-newest_more false x xs = ap entries_of (reverse-append xs (x ∷ []))
-
-pub unseen_newest : (xs : List Change) → entries_of (reverse (unseen none (reverse xs))) ≡ newest (entries_of xs)
-unseen_newest [] = refl
-unseen_newest (x ∷ xs) =
-    let newer = unseen none (reverse xs) in
-    let named = names x.row (entries_of xs) in
-    ap (λ ys. entries_of (reverse (unseen none ys))) (reverse-append (x ∷ []) xs)
-    ∙ ap (λ ys. entries_of (reverse ys)) (unseen_push none (reverse xs) x ∙ ap (λ b. newer ++ cond b [] (x ∷ [])) (seen_named x.row xs x.low))
-    ∙ newest_more named x newer ∙ ap (λ es. cond named es (entry_of x ∷ es)) (unseen_newest xs)
-
--- a list that was reversed through its slice
-pub turned : (v : ArrayVec Change) (shown left : List Change) → shown ≡ v.items → left ≡ reverse shown → (with_items v left).items ≡ reverse v.items
-turned v shown left s r = let e = r ∙ ap reverse s in items-with_items v left (ap length e ∙ length-reverse v.items) ∙ e
+-- ---- `compact`: what stands at the front of the slice is what the cut leaves
+pub cut : (v w : ArrayVec Change) (shown left : List Change) (k : ℕ) → shown ≡ v.items → length left ≡ length shown → entries_of (take k left) ≡ newest (entries_of shown) → w.items ≡ take k (with_items v left).items → entries_of w.items ≡ newest (entries_of v.items)
+cut v w shown left k s l f t = ap entries_of (t ∙ ap (take k) (items-with_items v left (l ∙ ap length s))) ∙ f ∙ ap (λ xs. newest (entries_of xs)) s

@@ -2,4 +2,5 @@ mod Compacted
 mod Latest
 mod Lists
 mod Pigeonhole
+mod Places
 mod Replays

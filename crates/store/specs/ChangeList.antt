@@ -1,5 +1,5 @@
 -- A list of changes, oldest first: which of its entries count, and what it means.
-use Rattle.std.specs.Prelude.{◌≡◌, ℕ, ◌≤◌, Bool, true, false, cond, ◌⊎◌, List, [], ◌∷◌, ◌++◌, length, ◌==◌, ◌≢◌, nat_lt, slice_set}
+use Rattle.std.specs.Prelude.{◌≡◌, ℕ, ◌+◌, ◌≤◌, Bool, true, false, cond, ◌⊎◌, List, [], ◌∷◌, ◌++◌, length, ◌==◌, ◌≢◌, nat_lt, slice_set}
 use Rattle.store.specs.Held.{accepts}
 
 -- an entry of the list: a row, and the value that was kept for it
@@ -52,3 +52,8 @@ pub record NewestEntry (row : ℕ) (v : List ℕ) (es : List Entry) : Type 0 whe
 -- a row's value by the list: that of its newest entry, or 0 bytes without one
 abbrev pub NewestCounts : ℕ → List ℕ → List Entry → Type 0
 NewestCounts row v es = (Unnamed row es × (v ≡ [])) ⊎ NewestEntry row v es
+
+-- by row, the place of its newest entry, where the list's first entry is at place i and a row without one keeps what stood there
+abbrev pub places_from : ℕ → List Entry → List ℕ → List ℕ
+places_from i [] places = places
+places_from i (e ∷ es) places = places_from (i + 1) es (slice_set places e.row i)

@@ -27,6 +27,7 @@ impl Store for Cells {
 
     ghost sound = { λ s. cells_sound s.cells s.sized };
 
+    #[tactic(auto, using(crate::proofs::Lists::cell_kept))]
     fn keep(&mut self, row: usize, value: &[u8]) -> Result<(), KeepRefusal> {
         let value = check_keep(row, value)?;
         self.cells[row] = value;
