@@ -12,11 +12,11 @@ module _ {N : Type 0} (k : NumberKind N) (l : Laws k) (r : Range N) where
   pub as_read : (bs : List ℕ) (n : N) → k.reads bs ≡ Some n → in_range k r bs ≡ between k r.least r.greatest (Some n)
   as_read bs n e = ap (λ (b : Bool). b && between k r.least r.greatest (k.reads bs)) (eq-eqb _ _ (l.sized bs n e)) ∙ ap (between k r.least r.greatest) e
 
-  -- what the check answers, by the number that is read, if there is one
-  pub as_checked : (bs : List ℕ) (b : Bool) (Held : N → Type 0) → ((n : N) → Held n → b ≡ between k r.least r.greatest (Some n)) →
-      (o : Option N) → o ≡ k.reads bs → MatchOption o (b ≡ false) Held → b ≡ in_range k r bs
-  as_checked bs b Held told None e m = m ∙ sym (and_right (length bs == k.width) _ (ap (between k r.least r.greatest) (sym e)))
-  as_checked bs b Held told (Some n) e m = told n m ∙ sym (as_read bs n (sym e))
+  -- what the check answers, by the number that is read, if there is one, and by whether that is held to lie in the range
+  pub as_checked : (bs : List ℕ) (answer held : Bool) (Held : N → Type 0) → (held ≡ false → answer ≡ false)
+      → ((n : N) → Held n → answer ≡ between k r.least r.greatest (Some n)) → (o : Option N) → o ≡ k.reads bs → MatchOption o (held ≡ false) Held → answer ≡ in_range k r bs
+  as_checked bs answer held Held none some None e m = none m ∙ sym (and_right (length bs == k.width) _ (ap (between k r.least r.greatest) (sym e)))
+  as_checked bs answer held Held none some (Some n) e m = some n m ∙ sym (as_read bs n (sym e))
 
   written : (o : Option (List ℕ)) → k.writes r.«default» ≡ o → is_some o ≡ true → ReadBack k r.«default» → in_order k r ≡ true →
       (bs : List ℕ) × (k.writes r.«default» ≡ Some bs) × (in_range k r bs ≡ true)
